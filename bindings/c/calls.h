@@ -6,11 +6,33 @@
 #define TEXT(s) (const uint8_t *)(s), strlen(s)
 
 static tizulgech_repository repository, empty;
-static uint8_t root[36], cid[36], out[8192], node[4096], proof[4096];
-static size_t node_end, place, size;
+static uint8_t root[36], cid[36], out[8192], node[4096], proof[4096], file[8192];
+static size_t node_end, place, size, file_end;
 static const size_t key_ends[] = {7, 14}, record_ends[] = {1, 2};
 
-/* The repositories, and the node of the first one's tree. */
+static size_t put(uint8_t *to, const void *from, size_t count) {
+    memcpy(to, from, count);
+    return count;
+}
+/* The file of the first repository with a signature, of no bytes, in its commit, whose section has a length of two bytes. */
+static int is_file_made(void) {
+    uint8_t commit[160] = {0xa6}, *car = out;
+    if (tizulgech_car(&repository, out, sizeof out, &size)) return 0;
+    const uint8_t *unsigned_commit = car + 59 + 2 + 36, *behind = unsigned_commit + (car[59] & 127) + 128 * car[60] - 36;
+    const size_t fields = 1 + 4 + 12 + 4 + 14;
+    size_t end = 1 + put(commit + 1, unsigned_commit + 1, fields - 1);
+    end += put(commit + end, "\x63sig\x40", 5);
+    end += put(commit + end, unsigned_commit + fields, (size_t)(behind - unsigned_commit) - fields);
+    tizulgech_cid(commit, end, cid, 36);
+    file_end = put(file, car, 59);
+    memcpy(file + 14, cid, 36);
+    file[file_end++] = (uint8_t)(128 | (36 + end)), file[file_end++] = (uint8_t)((36 + end) / 128);
+    file_end += put(file + file_end, cid, 36);
+    file_end += put(file + file_end, commit, end);
+    file_end += put(file + file_end, behind, (size_t)(car + size - behind));
+    return tizulgech_check_car(file, file_end, &place, out, sizeof out, &size) == TIZULGECH_DONE;
+}
+/* The repositories, the node of the first one's tree, and its file. */
 static int is_begun(void) {
     static const char *keys[] = {"a.b.c/d", "a.b.c/e", "a.b.c/f"};
     if (tizulgech_open(100, &repository) || tizulgech_open(1, &empty)) return 0;
@@ -20,6 +42,7 @@ static int is_begun(void) {
     if (tizulgech_prove(&repository, TEXT("a.b.c/d"), proof, sizeof proof, &size)) return 0;
     node_end = size - 8;
     memcpy(node, proof + 8, node_end);
+    if (!is_file_made()) return 0;
     return tizulgech_stage(&repository, 0, TEXT("a.b.c/g"), TEXT("\xa0")) == TIZULGECH_DONE;
 }
 static void end(void) {
@@ -107,6 +130,42 @@ static int of_prove_inversion(void) {
 }
 static int of_prove(void) { return tizulgech_prove(&repository, TEXT("a.b.c/d"), out, sizeof out, &size); }
 
+static int of_node_entries(void) { return tizulgech_node_entries(node, node_end, out, sizeof out, &size); }
+static int of_tree_prove_change(void) {
+    static const uint8_t values[72];
+    return tizulgech_tree_prove_change(node, node_end, &node_end, 1, NULL, 0, root, 36, TEXT("a.b.c/da.b.c/z"), key_ends, 2, values, 72, cid, 36, out, sizeof out, &size);
+}
+/* The empty tree's node stands behind the other one. */
+static int of_two_trees(uint8_t (*call)(const uint8_t *, size_t, const size_t *, size_t, const uint8_t *, size_t, const uint8_t *, size_t, const uint8_t *, size_t, uint8_t *, size_t, uint8_t *, size_t, size_t *)) {
+    size_t ends[2] = {node_end, node_end + 7};
+    uint8_t none[36], bad[36];
+    memcpy(node + node_end, "\xa2\x61\x65\x80\x61\x6c\xf6", 7);
+    tizulgech_cid(node + node_end, 7, none, 36);
+    return call(node, ends[1], ends, 2, root, 0, none, 36, root, 36, bad, 36, out, sizeof out, &size);
+}
+static int of_difference(void) { return of_two_trees(tizulgech_difference); }
+static int of_missing(void) { return of_two_trees(tizulgech_missing); }
+static int of_record_json(void) { return tizulgech_record_json(TEXT("\xa1\x61k\x81\xa1\x61k\x01"), out, sizeof out, &size); }
+static int of_json_record(void) { return tizulgech_json_record(TEXT("{\"k\": [{\"k\": 1}]}"), out, sizeof out, &size); }
+static int of_faulty_json(void) {
+    int number = tizulgech_json_record(TEXT("{\"k\": [{\"k\": 1.5}]}"), out, sizeof out, &size);
+    return number == TIZULGECH_JSON_FLOAT ? size != 7 || memcmp(out, ".k[0].k", 7) : number;
+}
+static int of_link_text(void) { return tizulgech_link_text(root, 36, out, sizeof out, &size); }
+static int of_link_from_text(void) {
+    uint8_t text[59];
+    tizulgech_cid_text(root, 36, text, 59);
+    return tizulgech_link_from_text(text, 59, out, sizeof out, &size);
+}
+static int of_check_car(void) { return tizulgech_check_car(file, file_end, &place, out, sizeof out, &size); }
+static int of_open_car(void) {
+    tizulgech_repository other = {0};
+    int number = tizulgech_open_car(3, file, file_end, &other, &place);
+    if (other.is_open != (number == 0) || (!number && (tizulgech_root(&other, cid, 36) || memcmp(cid, root, 36)))) return 1;
+    tizulgech_close(&other);
+    return number;
+}
+
 /* These take no memory. */
 static int of_values(void) {
     static uint8_t text[59];
@@ -133,6 +192,9 @@ static const struct {
     {"write_fault", of_write, 1, 1}, {"below", of_below, 1, 1}, {"links", of_links, 1, 1}, {"verify_change", of_change, 3, 1}, {"verify_inversion", of_inversion, 3, 1}, {"tree_root", of_root_of_tree, 1, 1}, {"listing_car", of_listing, 1, 1}, {"open", of_open, 2, 1}, {"stage", of_stage, 2, 1},
     {"list", of_list, 1, 1}, {"car", of_car, 1, 1}, {"car_length", of_length, 1, 1}, {"car_part", of_part, 1, 1}, {"prove", of_prove, 1, 1},
     {"entries", of_entries, 1, 1}, {"car_head", of_head, 1, 1}, {"car_section", of_section, 1, 1}, {"prove_change", of_prove_change, 1, 1}, {"prove_inversion", of_prove_inversion, 2, 1},
+    {"node_entries", of_node_entries, 1, 1}, {"tree_prove_change", of_tree_prove_change, 1, 1}, {"difference", of_difference, 2, 1}, {"missing", of_missing, 2, 1},
+    {"record_json", of_record_json, 1, 1}, {"json_record", of_json_record, 1, 1}, {"json_record of a fault", of_faulty_json, 1, 1},
+    {"link_text", of_link_text, 1, 1}, {"link_from_text", of_link_from_text, 2, 1}, {"check_car", of_check_car, 1, 1}, {"open_car", of_open_car, 3, 1},
     {"those of values", of_values, 11, 0}, {"those of reading", of_reading, 4, 0},
 };
 enum { CALLS = sizeof calls / sizeof *calls };

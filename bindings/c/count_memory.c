@@ -9,7 +9,7 @@ int main(void) {
     for (; count < 1000000; turns++) {
         if (!is_begun()) return 1;
         long pieces = heap_pieces, bytes = heap_bytes;
-        count += 8;
+        count += 11;
         for (int i = 0; i < CALLS; i++, count += calls[i - 1].count)
             if (calls[i].call()) return printf("%s fails\n", calls[i].name), 2;
         if (heap_pieces != pieces || heap_bytes != bytes) return printf("%ld bytes are lost\n", heap_bytes - bytes), 3;

@@ -123,6 +123,31 @@ var (
 	ErrCidProfile = ofCids.add(5, "CID_PROFILE", "not a CIDv1 of DAG-CBOR with SHA-256")
 )
 
+// Of records as JSON, of files and of signed commits.
+var (
+	ErrNotJSON       = ofAll.add(60, "NOT_JSON", "the text is not JSON")
+	ErrDoubledKey    = ofAll.add(61, "DOUBLED_KEY", "a key stands twice in an object")
+	ErrJSONFloat     = ofAll.add(62, "JSON_FLOAT", "a number has a point or an exponent")
+	ErrJSONRange     = ofAll.add(63, "JSON_RANGE", "a whole number is outside of -(2^53 - 1) to 2^53 - 1")
+	ErrJSONLink      = ofAll.add(64, "JSON_LINK", "a link holds no CID of version 1 in base 32")
+	ErrJSONBytes     = ofAll.add(65, "JSON_BYTES", "bytes are not in base 64")
+	ErrJSONDollar    = ofAll.add(66, "JSON_DOLLAR", "an object with $link or $bytes has other keys")
+	ErrJSONDepth     = ofAll.add(67, "JSON_DEPTH", "lists and maps lie more than 64 levels deep")
+	ErrJSONNotAMap   = ofAll.add(68, "JSON_NOT_A_MAP", "the value is not a map")
+	ErrNoJSONForm    = ofAll.add(69, "NO_JSON_FORM", "the record has no JSON form")
+	ErrNotTheTree    = ofAll.add(70, "NOT_THE_TREE", "the file does not have a whole tree under its commit")
+	ErrNotACommit    = ofAll.add(100, "NOT_A_COMMIT", "the bytes are not those of a signed commit")
+	ErrCommitDid     = ofAll.add(101, "COMMIT_DID", "the DID of the commit is not one")
+	ErrCommitRev     = ofAll.add(102, "COMMIT_REV", "the revision of the commit is not a timestamp identifier")
+	ErrCARHeader     = ofAll.add(103, "CAR_HEADER", "the file does not begin as a CAR with one root")
+	ErrCARLength     = ofAll.add(104, "CAR_LENGTH", "the length of a section is not a number in its shortest form")
+	ErrCARTruncated  = ofAll.add(105, "CAR_TRUNCATED", "the file ends within a section")
+	ErrCARCid        = ofAll.add(106, "CAR_CID", "a section does not begin with a CID of a block")
+	ErrMisnamed      = ofAll.add(123, "MISNAMED", "a block has another CID")
+	ErrCommitMissing = ofAll.add(124, "COMMIT_MISSING", "the commit is not among the blocks")
+	ErrRecordMissing = ofAll.add(127, "RECORD_MISSING", "a record is missing")
+)
+
 // Of any call.
 var (
 	ErrSmall    = ofAll.add(251, "SMALL", "the room is too small")

@@ -28,6 +28,8 @@ type RecordCode = 'TRUNCATED' | 'LONG_HEAD' | 'INDEFINITE' | 'BAD_TAG' | 'BAD_LI
 type CidCode = 'CID_LENGTH' | 'CID_PREFIX' | 'CID_LETTER' | 'CID_BITS' | 'CID_PROFILE'
 type BatchCode = RecordCode | 'BAD_KEY' | 'NOT_A_MAP' | 'RECORD_SIZE' | 'KEY_EXISTS' | 'NONE' | 'WRITES_FULL' | 'EMPTY_BATCH' | 'BAD_DID' | 'BAD_REV' | 'REV_ORDER'
 type TreeCode = 'MISSING' | 'NOT_ASCENDING' | 'BAD_KEY' | 'BAD_NODE' | 'TOO_MANY_NODES' | 'NOT_BUILT' | 'OTHER_VALUE' | 'OTHER_ROOT' | 'NOT_TREE'
+type JsonCode = 'NOT_JSON' | 'DOUBLED_KEY' | 'JSON_FLOAT' | 'JSON_RANGE' | 'JSON_LINK' | 'JSON_BYTES' | 'JSON_DOLLAR' | 'JSON_DEPTH' | 'JSON_NOT_A_MAP' | 'NO_JSON_FORM'
+type FileCode = 'NOT_THE_TREE' | 'NOT_A_COMMIT' | 'COMMIT_DID' | 'COMMIT_REV' | 'CAR_HEADER' | 'CAR_LENGTH' | 'CAR_TRUNCATED' | 'CAR_CID' | 'MISNAMED' | 'COMMIT_MISSING' | 'RECORD_MISSING'
 type RepositoryCode = 'CLOSED' | 'BUSY' | 'CHANGED'
 type AnyCode = 'BAD' | 'CLASH' | 'FULL' | 'NO_MEMORY'
 
@@ -39,6 +41,16 @@ export class TizulgechError<Code extends string = string> extends Error {
 }
 /** Bytes are no record. */
 export class RecordError extends TizulgechError<RecordCode | AnyCode> {}
+/** A text is no record as JSON, or a record has no JSON text, or bytes are no link's CID. */
+export class JsonError extends TizulgechError<JsonCode | RecordCode | AnyCode> {
+  /** The way to the first fault of a text, .key and [place]. */
+  readonly path?: string
+}
+/** A file is no export of a repository, or has more records than one is to take. */
+export class FileError extends TizulgechError<FileCode | BatchCode | AnyCode> {
+  /** The place of the record that isn't taken, from 0. */
+  readonly place?: number
+}
 /** A text, or bytes, are no CID of this profile. */
 export class CidError extends TizulgechError<CidCode> {}
 /** A batch, a write or a stamp was refused. */
@@ -85,8 +97,20 @@ export function commitBytes(stamp: Stamp, root: CidLike): Uint8Array
 export function treeRoot(pairs: Iterable<readonly [Bytes, CidLike]>): Promise<{ root: Cid; nodes: number }>
 /** The CAR file of a repository whose one batch puts these records, each a key and its bytes, under this stamp. */
 export function listingCar(stamp: Stamp, records: Iterable<readonly [Bytes, Uint8Array]>): Promise<Uint8Array>
+/** The pairs and the links of a node, from the front: the link before the first key, and each pair with the link behind it. */
+export function nodeEntries(node: Uint8Array): { left: Cid | null; pairs: { key: Uint8Array; cid: Cid; link: Cid | null }[] }
 /** What stands below a node, in the order of a CAR file. */
 export function links(node: Uint8Array): { isNode: boolean; cid: Cid }[]
+
+/** The one JSON text of a record, by the AT Protocol's data model. */
+export function recordJson(record: Uint8Array): string
+/** The record in DAG-CBOR that a JSON text is, of any layout. */
+export function jsonRecord(text: Bytes): Uint8Array
+/** The text in which a link has a CID of version 1, whatever its codec and hash are, as that of a blob; and the CID with such a text. */
+export function linkText(cid: Uint8Array): string
+export function linkFromText(text: Bytes): Uint8Array
+/** Of which repository a CAR file is the export, as com.atproto.sync.getRepo serves it. No signature is tested. */
+export function checkCar(file: Uint8Array): Promise<{ commit: Cid; root: Cid; count: number; did: string; rev: string }>
 
 /** What the tree with this root has under a key, as the nodes of a proof show: its value's CID, or null where it has none. */
 export function verify(root: CidLike, proof: Iterable<Uint8Array>, key: Bytes): Promise<Cid | null>
@@ -118,6 +142,12 @@ export const tree: {
   path(get: GetNode, root: CidLike, key: Bytes): Promise<{ path: Uint8Array[]; value: Cid | null }>
   get(get: GetNode, root: CidLike, key: Bytes): Promise<Cid | null>
   apply(get: GetNode, root: CidLike, changes: Changes): Promise<Edit>
+  /** What changes make of a tree, and the nodes that show it to whoever knows its root. Nothing is changed by it. */
+  proveChange(get: GetNode, root: CidLike, changes: Changes): Promise<ChangeProof>
+  /** The first pairs from a key on, 256 at most where no number is given. */
+  list(get: GetNode, root: CidLike, from?: Bytes, most?: number): Promise<{ key: Uint8Array; cid: Cid }[]>
+  /** What one tree differs by from another: the keys in their order, and its nodes that the other lacks and those of the other that it lacks. */
+  difference(get: GetNode, before: CidLike, after: CidLike): Promise<Omit<Edit, 'root'>>
 }
 
 /** The root after a batch, the root before it, and the CID of its commit. */
@@ -130,6 +160,8 @@ export class Repository {
   private constructor()
   /** Opens one that takes so many writes, 1 to 1,048,576. */
   static open(limit: number | bigint): Repository
+  /** Opens one with the records of a CAR file, as com.atproto.sync.getRepo serves it, that takes so many writes. */
+  static openCar(limit: number | bigint, file: Uint8Array): Repository
   close(): void
   [Symbol.dispose](): void
   /** Accepts all writes of a batch, in order, or none of them. */

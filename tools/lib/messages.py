@@ -14,8 +14,9 @@ from lib.model import (Ended, Fault, Reader, Repository, Write, car_of, cid_in, 
                        refused, text, text_of, write_of)
 
 HEADER = head(5, 2) + text(b"t") + text(b"#commit") + text(b"op") + head(0, 1)
-MOST_BYTES, MOST_OPS, MOST_BYTES_OF_BLOCKS, MOST_BYTES_OF_RECORD = 5_000_000, 200, 2_000_000, 1_000_000
-# The revision of the records before a batch that `commit-event` reads.
+HEADER_OF_STATE = head(5, 2) + text(b"t") + text(b"#sync") + text(b"op") + head(0, 1)
+MOST_BYTES, MOST_OPS, MOST_BYTES_OF_BLOCKS, MOST_BYTES_OF_RECORD, MOST_BYTES_OF_STATE = 5_000_000, 200, 2_000_000, 1_000_000, 10_000
+# The revision of the records before a batch that `commit-event` and `sync-event` read.
 FIRST_REV = b"2222222222222"
 
 # The names of all that may be wrong with a message, without places and CIDs: of its form, of its blocks, and of what they show.
@@ -374,6 +375,19 @@ def written(words: Words, old: Repository, new: Repository) -> bytes:
     return message_of(fields_of_event(event), [map_of(fields_of_op(op)) for op in ops])
 
 
+def written_of_state(words: Words, it: Repository) -> bytes:
+    """The message of a repository as it is; why there is none else."""
+    for is_so, name in [(words.seq >= 2**63, "BadSeq"), (not is_time(words.time), "BadTime")]:
+        if is_so:
+            raise Fault(name)
+    commit = commit_bytes(words.did, words.rev, bytes.fromhex(words.sig.decode()), it.tree().root, None)
+    file = car_of(cid_of(commit), [commit])
+    if len(file) > MOST_BYTES_OF_STATE:
+        raise Fault("BlocksSize")
+    fields = {b"seq": head(0, words.seq), b"did": text(words.did), b"rev": text(words.rev), b"time": text(words.time), b"blocks": data_of(file)}
+    return HEADER_OF_STATE + map_of(fields)
+
+
 def line_in(line: bytes, is_behind: bool) -> Write | None:
     """The write of a line before the first empty one, or behind it."""
     if is_behind:
@@ -392,8 +406,8 @@ def applied(it: Repository, rev: bytes, writes: list[tuple[int, Write | None]]) 
     return next((f"line {number}: BadLine" for number, write in writes if not write), None)
 
 
-def commit_event(words: Words, data: bytes) -> Ended:
-    """What `commit-event` writes for lines of records and the batch behind them."""
+def event(words: Words, data: bytes, is_of_state: bool) -> Ended:
+    """What `commit-event` writes for lines of records and the batch behind them, or `sync-event`."""
     for is_so, name in [(not is_did(words.did), "BadDid"), (not is_tid(words.rev), "BadRev"), (hex_of(words.sig) is None, "BadSig")]:
         if is_so:
             return refused(name)
@@ -409,14 +423,27 @@ def commit_event(words: Words, data: bytes) -> Ended:
         parts[is_behind].append((number, write))
         if not write:
             break
-    old, new = Repository(), Repository()
-    for it, rev, batch in ((old, FIRST_REV, parts[0]), (new, FIRST_REV, parts[0]), (new, words.rev, parts[1])):
-        fault = applied(it, rev, batch)
+    before, batch = [[write for _, write in part if write] for part in parts]
+    if before and batch and words.rev == FIRST_REV:
+        return refused("RevOrder")
+    old, new, rev = Repository(), Repository(), FIRST_REV if batch else words.rev
+    for it, given, part in ((old, rev, parts[0]), (new, rev, parts[0]), (new, words.rev, parts[1])):
+        fault = applied(it, given, part)
         if fault:
             return refused(fault)
-    if not parts[1]:
+    if not batch and not (is_of_state and before):
         return refused("NoBatch")
     try:
-        return Ended(0, written(words, old, new), b"")
+        return Ended(0, written_of_state(words, new) if is_of_state else written(words, old, new), b"")
     except Fault as fault:
         return refused(str(fault))
+
+
+def commit_event(words: Words, data: bytes) -> Ended:
+    """What `commit-event` writes for lines of records and the batch behind them."""
+    return event(words, data, False)
+
+
+def sync_event(words: Words, data: bytes) -> Ended:
+    """What `sync-event` writes for the same lines."""
+    return event(words._replace(since=None), data, True)

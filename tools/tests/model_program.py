@@ -74,10 +74,10 @@ def answer(words: list[str], data: bytes) -> model.Ended:
         return exports.answer(words, data)
     if words[0] == "check-event":
         return messages.check_event(words[-1].encode(), data, "--json" in words)
-    if words[0] == "commit-event":
+    if words[0] in ("commit-event", "sync-event"):
         since = named["--since"].encode() if "--since" in named else None
         told = messages.Words(words[-2].encode(), words[-1].encode(), since, int(named["--seq"]), named["--time"].encode(), named["--sig"].encode())
-        return messages.commit_event(told, data)
+        return messages.commit_event(told, data) if words[0] == "commit-event" else messages.sync_event(told, data)
     if words[0] == "verify":
         return verified(data, words[1], words[2].encode())
     return model.run(int(named["--repos"]), int(named["--workers"]), data, did)

@@ -130,7 +130,18 @@ class MessagesTest(unittest.TestCase):
                              (b"\ndelete a/b\nx", "line 2: NoSuchKey"), (b"\nput a/b a0\nput a/b  a0", "line 3: BadLine"), (b"put a/b a0", "line 1: BadLine"), (b"", "NoBatch")):
             self.assertEqual(told(lines), fault)
         words = words._replace(rev=messages.FIRST_REV)
-        self.assertEqual([told(lines) for lines in (b"a/b a0\n\nput a/b a0", b"\nput a/b a0")], ["line 3: RevOrder", ""])
+        self.assertEqual([told(lines) for lines in (b"a/b a0\n\nput a/b a0", b"\nput a/b a0")], ["RevOrder", ""])
+
+    def test_of_a_state(self) -> None:
+        words = messages.Words(b"did:web:x", 13 * b"3", None, 1, b"2026-11-30T12:00:00Z", b"00")
+        told = lambda words, lines: messages.sync_event(words, lines)
+        self.assertEqual(told(words, b"a/b a0\n"), told(words._replace(since=b"x"), b"a/c a0\n\nput a/b a0\ndelete a/c\n"))
+        self.assertTrue(told(words, b"a/b a0\n").out.startswith(messages.HEADER_OF_STATE))
+        first, long = words._replace(rev=messages.FIRST_REV), words._replace(sig=20_000 * b"0")
+        for beside, lines, fault in ((words, b"", "NoBatch"), (words, b"a/b a0\n\nupdate a/c a0", "line 3: NoSuchKey"), (first, b"a/b a0\n\nput a/c a0", "RevOrder"),
+                                     (words._replace(seq=2**63), b"a/b a0", "BadSeq"), (words._replace(time=b""), b"a/b a0", "BadTime"), (long, b"a/b a0", "BlocksSize")):
+            self.assertEqual(told(beside, lines).err.decode(), f"msthost: {fault}\n")
+        self.assertEqual(told(first, b"a/b a0").status, 0)
 
     def test_each_fault_that_is_explained(self) -> None:
         """What the program explains of messages comes of messages or of batches."""

@@ -74,7 +74,7 @@ typedef struct call {
 } call;
 
 /* calls.c */
-extern const call calls[], open_call, close_call;
+extern const call calls[], open_call, open_car_call, close_call;
 extern const size_t call_count;
 int64_t weight(const job *); /* what a call that was made adds to a repository, about */
 

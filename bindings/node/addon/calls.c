@@ -12,6 +12,7 @@
 
 static uint32_t run_version(job *j) { return (void)j, (uint32_t)tizulgech_version(); }
 static uint32_t run_open(job *j) { return tizulgech_open(N(0), R); }
+static uint32_t run_open_car(job *j) { return tizulgech_open_car(N(0), B(1), R, PLACE); }
 static uint32_t run_cid(job *j) { return tizulgech_cid(B(0), C(0)), 0; }
 static uint32_t run_cid_text(job *j) {
     j->size = 59;
@@ -44,7 +45,7 @@ const call calls[] = {
 #undef CALL
 };
 const size_t call_count = sizeof calls / sizeof *calls;
-const call open_call = {"open", "n", run_open}, close_call = {"close", "rf", NULL};
+const call open_call = {"open", "n", run_open}, open_car_call = {"open_car", "nb", run_open_car}, close_call = {"close", "rf", NULL};
 
 /* Of a batch what its writes weigh in the repository. */
 int64_t weight(const job *j) {

@@ -38,7 +38,7 @@ void close_slot(napi_env env, instance *own, slot *it) {
     own->free[own->free_count++] = it->index;
 }
 
-/* The number of a new repository is written to the slate. */
+/* The number of a new repository is written to the slate, or the place of what is faulty. */
 napi_value open_now(napi_env env, napi_callback_info info) {
     job it, *j = &it;
     napi_value answer = NULL;
@@ -47,9 +47,11 @@ napi_value open_now(napi_env env, napi_callback_info info) {
     if (!j->slot) j->answer = TIZULGECH_NO_MEMORY;
     else {
         j->answer = j->call->run(j);
-        j->number = (uint64_t)j->slot->turn << 20 | j->slot->index;
         if (j->answer) j->own->free[j->own->free_count++] = j->slot->index;
-        else j->slot->is_open = true, tell(env, j->slot, 4096);
+        else {
+            j->number = (uint64_t)j->slot->turn << 20 | j->slot->index;
+            j->slot->is_open = true, tell(env, j->slot, 4096 + 2 * (int64_t)j->arguments[1].len);
+        }
         write_fixed(j, j->own->slate);
     }
     napi_create_uint32(env, j->answer, &answer);

@@ -26,6 +26,7 @@ napi_value set_up(napi_env env, napi_value exports) {
     bool made = napi_create_object(env, &later) == napi_ok && napi_set_named_property(env, exports, "later", later) == napi_ok
         && napi_create_external_arraybuffer(env, own->slate, SLATE, NULL, NULL, &slate) == napi_ok
         && napi_set_named_property(env, exports, "slate", slate) == napi_ok && put(env, exports, &open_call, open_now)
+        && put(env, exports, &open_car_call, open_now)
         && put(env, exports, &close_call, close_now);
     for (size_t i = 0; made && i < call_count; i++) made = put(env, exports, &calls[i], call_now) && put(env, later, &calls[i], call_later);
     if (!made) wrong(env, "the addon wasn't set up");

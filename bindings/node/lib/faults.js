@@ -48,6 +48,27 @@ const OF_ALL = {
   33: ['OTHER_VALUE', 'a key has another value'],
   34: ['OTHER_ROOT', 'the changes lead to another root'],
   35: ['NOT_TREE', "the nodes aren't a tree's"],
+  60: ['NOT_JSON', 'the text is not JSON'],
+  61: ['DOUBLED_KEY', 'a key stands twice in an object'],
+  62: ['JSON_FLOAT', 'a number has a point or an exponent'],
+  63: ['JSON_RANGE', 'a whole number is outside of -(2^53 - 1) to 2^53 - 1'],
+  64: ['JSON_LINK', 'a link holds no CID of version 1 in base 32'],
+  65: ['JSON_BYTES', 'bytes are not in base 64'],
+  66: ['JSON_DOLLAR', 'an object with $link or $bytes has other keys'],
+  67: ['JSON_DEPTH', 'lists and maps lie more than 64 levels deep'],
+  68: ['JSON_NOT_A_MAP', 'the value is not a map'],
+  69: ['NO_JSON_FORM', 'the record has no JSON form'],
+  70: ['NOT_THE_TREE', 'the file does not have a whole tree under its commit'],
+  100: ['NOT_A_COMMIT', 'the bytes are not those of a signed commit'],
+  101: ['COMMIT_DID', 'the DID of the commit is not one'],
+  102: ['COMMIT_REV', 'the revision of the commit is not a timestamp identifier'],
+  103: ['CAR_HEADER', 'the file does not begin as a CAR with one root'],
+  104: ['CAR_LENGTH', 'the length of a section is not a number in its shortest form'],
+  105: ['CAR_TRUNCATED', 'the file ends within a section'],
+  106: ['CAR_CID', 'a section does not begin with a CID of a block'],
+  123: ['MISNAMED', 'a block has another CID'],
+  124: ['COMMIT_MISSING', 'the commit is not among the blocks'],
+  127: ['RECORD_MISSING', 'a record is missing'],
   249: ['OPEN', 'the repository is open already'],
   250: ['CLOSED', 'the repository is closed'],
   251: ['SMALL', 'the room is too small'],
@@ -60,7 +81,8 @@ const OF_ALL = {
   257: ['CHANGED', 'a batch came between two parts of the repository'],
 }
 
-const sentence = (text, { cid, place, what = 'change' }) => {
+const sentence = (text, { cid, place, path, what = 'change' }) => {
+  if (path) return `${path}: ${text}`
   if (cid) return `${text}: ${cid}`
   return place === undefined ? text : `${what} ${place}: ${text}`
 }
@@ -74,11 +96,16 @@ export class TizulgechError extends Error {
     this.code = code
     if (more.place !== undefined) this.place = more.place
     if (more.cid) this.cid = more.cid
+    if (more.path !== undefined) this.path = more.path
   }
   get name() { return this.constructor.name }
 }
 /** Bytes are no record. */
 export class RecordError extends TizulgechError {}
+/** A text is no record as JSON, or a record has no JSON text, or bytes are no link's CID: `path` is the way to a text's first fault. */
+export class JsonError extends TizulgechError {}
+/** A file is no export of a repository: `place` is that of the record that isn't taken. */
+export class FileError extends TizulgechError {}
 /** A text, or bytes, are no CID of this profile. */
 export class CidError extends TizulgechError {}
 /** A batch, a write or a stamp was refused: `place` is that of the write. */
@@ -92,3 +119,8 @@ const isOfRepository = number => number === CLOSED || number === BUSY || number 
 export const repositoryFault = (number, Kind = TizulgechError, table, more) => isOfRepository(number) ? new RepositoryError(number) : new Kind(number, table, more)
 export const batchFault = (number, more) => repositoryFault(number, BatchError, number < BAD_KEY ? OF_RECORDS : undefined, more)
 export const treeFault = (number, more) => repositoryFault(number, TreeError, OF_TREES, more)
+const RECORD_MISSING = 127, RECORD_SIZE = 22
+export const fileFault = (number, place) => {
+  const isOfRecord = number <= RECORD_SIZE || number === RECORD_MISSING
+  return new FileError(number, number < BAD_KEY ? OF_RECORDS : undefined, isOfRecord ? { place, what: 'record' } : {})
+}

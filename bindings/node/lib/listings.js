@@ -29,6 +29,15 @@ export async function listingCar({ did, rev }, records) {
   return answer.bytes
 }
 
+/** The pairs and the links of a node, from the front: the link before the first key, and each pair with the link behind it. */
+export function nodeEntries(node) {
+  const answer = native.node_entries(block(node), 0), pairs = []
+  if (numberOf(answer)) throw new TreeError(answer)
+  const reader = new Reader(filled(answer)), left = reader.value()
+  while (reader.more) pairs.push({ key: reader.part(), cid: reader.cid(), link: reader.value() })
+  return { left, pairs }
+}
+
 /** What stands below a node, in the order of a CAR file: nodes and records. */
 export function links(node) {
   const answer = native.links(block(node), 0), found = []

@@ -20,6 +20,8 @@ export const firstCid = () => slate.slice(0, 36)
 export const firstNumber = () => numbers[0]
 /** Its text of a CID. */
 export const firstText = () => text.latin1Slice(REST, REST + 59)
+/** The text that stands where its answer would, where there is room for it in the slate. */
+export const firstWay = () => numbers[1] > 65_536 - REST ? '' : text.latin1Slice(REST, REST + numbers[1])
 /** Its answer of variable length: what it answered is a number, or bytes that have no room in the slate. */
 export const filled = answer => typeof answer === 'number' ? slate.slice(REST, REST + numbers[1]) : new Uint8Array(answer)
 export const numberOf = answer => typeof answer === 'number' ? answer : 0

@@ -3,8 +3,8 @@ import { setImmediate } from 'node:timers/promises'
 import { MANY, called, cidAt, filled, firstCid, firstNumber, isLong, native, numberOf, packed } from './native.js'
 import { Reader, made, raw } from './cids.js'
 import { Wanted, told } from './changes.js'
-import { BUSY, CHANGED, NONE, OTHER_VALUE, RepositoryError, batchFault, repositoryFault, treeFault } from './faults.js'
-import { listOf, outOfRange, wrong } from './given.js'
+import { BUSY, CHANGED, NONE, OTHER_VALUE, RepositoryError, batchFault, fileFault, repositoryFault, treeFault } from './faults.js'
+import { block, listOf, outOfRange, wrong } from './given.js'
 import { links } from './listings.js'
 import { keyOf, kindOf, recordOf } from './writes.js'
 
@@ -43,6 +43,13 @@ export class Repository {
   static open(limit) {
     const number = native.open(limit)
     if (number) throw new RepositoryError(number)
+    return new Repository(firstNumber(), SECRET)
+  }
+  /** Opens one with the records of a CAR file, as com.atproto.sync.getRepo serves it, that takes so many writes: they are one batch, under the DID
+   * and the revision of the file's commit. */
+  static openCar(limit, file) {
+    const number = native.open_car(limit, block(file))
+    if (number) throw fileFault(number, firstNumber())
     return new Repository(firstNumber(), SECRET)
   }
   /** Lets it go. Any later call is refused with the code CLOSED. */

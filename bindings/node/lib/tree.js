@@ -5,6 +5,7 @@ import { Wanted } from './changes.js'
 import { BAD_NODE, BELOW, MISSING, NONE, OF_TREES, TOO_MANY_NODES, TreeError, treeFault } from './faults.js'
 import { block, wrong } from './given.js'
 import { keyBytes } from './keys.js'
+import { nodeEntries } from './listings.js'
 
 /** No tree has more layers. */
 const LAYERS = 129
@@ -60,20 +61,52 @@ class Asked {
     }
     return links
   }
-  /** What the library answers to changes over the nodes that are here. */
-  edited(root, wanted) {
+  /** The nodes that are here, and their CIDs, as the addon takes them. */
+  given() {
     const given = Array.from(this.nodes.values()), nodes = given.map(it => it.node)
+    return { nodes, size: sizeOf(nodes), lists: [packed(nodes), joined(given.map(it => it.cid))] }
+  }
+  /** What a call of the library answers to changes over the nodes that are here. */
+  answered(name, root, wanted) {
+    const { nodes, size, lists } = this.given()
     // Room for the answer of nearly any edit: where it is too small all is made once more.
-    const room = sizeOf(nodes) + 128 * nodes.length + wanted.size + 256 * wanted.length + 1024
-    return called(isLong(nodes) || isLong(wanted.keys), 'tree_apply', packed(nodes), joined(given.map(it => it.cid)), raw(root), ...wanted.part(), room)
+    const room = size + 128 * nodes.length + wanted.size + 256 * wanted.length + 1024
+    return called(isLong(nodes) || isLong(wanted.keys), name, ...lists, raw(root), ...wanted.part(), room)
+  }
+  /** The same of two roots. */
+  ofBoth(name, roots, room) {
+    const { nodes, lists } = this.given()
+    return called(isLong(nodes), name, ...lists, ...roots.map(raw), room)
+  }
+  /** The bytes of an answer over the nodes that changes need, for which the host is asked. */
+  async overAsked(name, root, wanted) {
+    await this.askBelow(root, wanted)
+    for (;;) {
+      const answer = await this.answered(name, root, wanted)
+      if (!answer.number) return answer.bytes
+      const cid = answer.number === MISSING || answer.number === BAD_NODE ? made(cidAt(answer.cids, 0)) : undefined
+      if (answer.number !== MISSING) throw treeFault(answer.number, { cid })
+      // Nodes that are no tree's may need another one.
+      if (this.has(cid)) throw fault(BAD_NODE, cid)
+      await this.ask([cid])
+    }
   }
 }
+const faultOf = ({ number, cids }) => treeFault(number, { cid: number === MISSING || number === BAD_NODE ? made(cidAt(cids, 0)) : undefined })
 
 function editOf(bytes, wanted) {
   const reader = new Reader(bytes), edit = { root: reader.cid(), newBlocks: [], removedCids: [], changes: wanted.told(reader) }
   for (let left = reader.number(); left; left--) edit.removedCids.push(reader.cid())
   while (reader.more) edit.newBlocks.push({ cid: reader.cid(), bytes: reader.part() })
   return edit
+}
+
+const entriesOf = (node, cid) => {
+  try {
+    return nodeEntries(node)
+  } catch (error) {
+    throw error.number === BAD_NODE ? fault(BAD_NODE, cid) : error
+  }
 }
 
 export const tree = {
@@ -97,16 +130,55 @@ export const tree = {
   },
   /** Changes keys of a tree at once: each gets a value, or goes where that is null. */
   async apply(get, root, changes) {
-    const wanted = new Wanted(changes), asked = new Asked(get), top = Cid.from(root)
-    await asked.askBelow(top, wanted)
-    for (;;) {
-      const answer = await asked.edited(top, wanted)
-      if (!answer.number) return editOf(answer.bytes, wanted)
-      const cid = answer.number === MISSING || answer.number === BAD_NODE ? made(cidAt(answer.cids, 0)) : undefined
-      if (answer.number !== MISSING) throw treeFault(answer.number, { cid })
-      // Nodes that are no tree's may need another one.
-      if (asked.has(cid)) throw fault(BAD_NODE, cid)
-      await asked.ask([cid])
+    const wanted = new Wanted(changes)
+    return editOf(await new Asked(get).overAsked('tree_apply', Cid.from(root), wanted), wanted)
+  },
+  /** What changes make of a tree, and the nodes that show it to whoever knows its root. Nothing is changed by it. */
+  async proveChange(get, root, changes) {
+    const wanted = new Wanted(changes)
+    const reader = new Reader(await new Asked(get).overAsked('tree_prove_change', Cid.from(root), wanted))
+    return { after: reader.cid(), changes: wanted.told(reader), nodes: reader.parts() }
+  },
+  /** The first pairs from a key on, so many at most. */
+  async list(get, root, from = '', most = 256) {
+    const asked = new Asked(get), begin = keyBytes(from), pairs = []
+    // What is left, the next last: a pair, or a node with how many layers it may have.
+    const left = [{ node: Cid.from(root), layers: LAYERS }]
+    while (left.length && pairs.length < most) {
+      const { key, cid, node, layers } = left.pop()
+      if (key) {
+        pairs.push({ key, cid })
+        continue
+      }
+      if (!layers) throw fault(TOO_MANY_NODES)
+      await asked.ask([node])
+      const entries = entriesOf(asked.of(node), node), passed = entries.pairs.filter(it => Buffer.compare(it.key, begin) < 0).length
+      const before = passed ? entries.pairs[passed - 1].link : entries.left
+      for (const it of entries.pairs.slice(passed).reverse()) {
+        if (it.link) left.push({ node: it.link, layers: layers - 1 })
+        left.push({ key: it.key, cid: it.cid })
+      }
+      if (before) left.push({ node: before, layers: layers - 1 })
     }
+    return pairs
+  },
+  /** What the tree with the root after differs by from that with the root before. Of each the nodes are asked for that the other lacks, and both
+   * roots. */
+  async difference(get, before, after) {
+    const asked = new Asked(get), roots = [Cid.from(before), Cid.from(after)]
+    for (;;) {
+      const answer = await asked.ofBoth('missing', roots, 36 * (asked.nodes.size + 16)), cids = []
+      if (answer.number) throw faultOf(answer)
+      for (const reader = new Reader(answer.bytes); reader.more;) cids.push(reader.cid())
+      if (!cids.length) break
+      await asked.ask(cids)
+    }
+    const answer = await asked.ofBoth('difference', roots, 1024 + 2 * asked.given().size)
+    if (answer.number) throw faultOf(answer)
+    const reader = new Reader(answer.bytes), found = { changes: [], newBlocks: [], removedCids: [] }
+    for (let count = reader.number(); count; count--) found.changes.push({ key: reader.part(), prev: reader.value(), cid: reader.value() })
+    for (let count = reader.number(); count; count--) found.removedCids.push(reader.cid())
+    while (reader.more) found.newBlocks.push({ cid: reader.cid(), bytes: reader.part() })
+    return found
   },
 }

@@ -60,6 +60,40 @@ const calls = {
   },
 }
 
+/** The text of a key's bytes. */
+const utf8 = bytes => Buffer.from(bytes).toString()
+const blocks = list => list.map(({ cid, bytes }) => [`${cid}`, hex(bytes)]).sort(([one], [other]) => one < other ? -1 : 1)
+Object.assign(calls, {
+  node_entries: it => {
+    const { left, pairs } = t.nodeEntries(data(it.node))
+    return { left: text(left), pairs: pairs.map(({ key, cid, link }) => [utf8(key), `${cid}`, text(link)]) }
+  },
+  tree_list: async it => (await t.tree.list(host(it.nodes), it.root, it.start, it.most)).map(({ key, cid }) => [utf8(key), `${cid}`]),
+  tree_prove_change: async it => {
+    const { after, changes, nodes } = await t.tree.proveChange(host(it.nodes), it.root, it.changes)
+    await t.verifyChange(it.root, after, nodes, changes)
+    return { after: `${after}`, changes: rows(changes), shown: true }
+  },
+  tree_difference: async it => {
+    const { changes, newBlocks, removedCids } = await t.tree.difference(host(it.nodes), it.before, it.after)
+    return { changes: changes.map(it => [utf8(it.key), text(it.prev), text(it.cid)]), add: blocks(newBlocks), drop: removedCids.map(text).sort() }
+  },
+  record_json: it => t.recordJson(data(it.record)),
+  json_record: it => hex(t.jsonRecord(it.text)),
+  link_text: it => t.linkText(data(it.bytes)),
+  link_from_text: it => hex(t.linkFromText(it.text)),
+  check_car: async it => {
+    const found = await t.checkCar(data(it.file))
+    return { ...found, commit: `${found.commit}`, root: `${found.root}` }
+  },
+  open_car: async it => {
+    const one = t.Repository.openCar(it.limit, data(it.file))
+    const answer = { root: `${one.root}`, number: one.number, pairs: pairs(await all(one.entries())) }
+    one.close()
+    return answer
+  },
+})
+
 const steps = {
   apply: async (one, it) => {
     const { root, previous, commit } = await one.apply(it, it.writes.map(write))
@@ -98,7 +132,7 @@ async function see(it, call) {
   } catch (error) {
     assert(error instanceof TizulgechError, `${said}: ${error?.stack}`)
     assert.deepEqual([error.code, error.number], [it.fault, table.faults[error.code]], said)
-    for (const name of ['place', 'cid']) if (name in it && it.fault !== 'CLOSED') assert.equal(`${error[name]}`, `${it[name]}`, said)
+    for (const name of ['place', 'cid', 'path']) if (name in it && it.fault !== 'CLOSED') assert.equal(`${error[name] ?? 0}`, `${it[name]}`, said)
     return
   }
   assert(!('fault' in it), said)

@@ -129,6 +129,22 @@ test('of changes', async () => {
   one.close()
 })
 
+test('of JSON, of links and of files', async () => {
+  const table = JSON.parse(fileBeside('cases.json'))
+  const calls = {
+    json_record: [it => t.jsonRecord(it.text), t.JsonError], record_json: [it => t.recordJson(hex(it.record)), t.JsonError],
+    link_text: [it => t.linkText(hex(it.bytes)), t.JsonError], link_from_text: [it => t.linkFromText(it.text), t.JsonError],
+    check_car: [it => t.checkCar(hex(it.file)), t.FileError], open_car: [it => t.Repository.openCar(it.limit, hex(it.file)), t.FileError],
+  }
+  for (const it of table.calls) {
+    if (!(it.call in calls) || !it.fault || /\*/.test(it.record ?? it.bytes ?? '')) continue
+    const [call, Kind] = calls[it.call]
+    await fails(() => call(it), Kind, it.fault)
+  }
+  assert.throws(() => t.jsonRecord('{"a": [1.5]}'), { path: '.a[0]', message: '.a[0]: a number has a point or an exponent' })
+  await assert.rejects(t.checkCar(hex('00')), { message: 'the file does not begin as a CAR with one root' })
+})
+
 test('the codes are those of the header, and each was seen', () => {
   const header = fileBeside('c/tizulgech.h'), table = header.slice(header.indexOf('enum {'), header.indexOf('};'))
   const named = Array.from(table.matchAll(/TIZULGECH_(\w+) = (\d+)/g), ([, name, number]) => [name, Number(number)])

@@ -4,7 +4,7 @@ import assert from 'node:assert/strict'
 import test from 'node:test'
 import * as t from 'tizulgech'
 import { native } from '../lib/native.js'
-import { EMPTY, all, collected, hex, key, puts, record, stamp } from './common.js'
+import { EMPTY, all, collected, fileBeside, hex, key, puts, record, stamp } from './common.js'
 
 const one = t.Repository.open(10_000)
 await one.apply(stamp(1), puts(0, 40))
@@ -15,6 +15,7 @@ const get = cid => nodes.get(`${cid}`), gone = names.map(it => [it, null]), chan
 const inverted = [{ key: names[0], prev: null, cid: pairs[0].cid }]
 const long = 'x'.repeat(900), veryLong = 'x'.repeat(1 << 21)
 
+const file = hex(JSON.parse(fileBeside('cases.json')).calls.find(it => it.call === 'check_car' && it.answer).file)
 const calls = {
   checkRecord: () => t.checkRecord(hex('a1616b81a1616b01')),
   checkWrite: () => t.checkWrite({ action: 'put', key: 'a.b.c/d', record: hex('a1616b81a1616b01') }, true),
@@ -32,6 +33,16 @@ const calls = {
   treePath: () => t.tree.path(get, root, names[3]),
   treeApply: () => t.tree.apply(get, root, gone.slice(0, 2)),
   treeApplyOfMany: () => t.tree.apply(get, root, gone),
+  nodeEntries: () => t.nodeEntries(proof[0]),
+  treeList: () => t.tree.list(get, root, names[3], 9),
+  treeProveChange: () => t.tree.proveChange(get, root, gone),
+  treeDifference: () => t.tree.difference(cid => `${cid}` === EMPTY ? t.EMPTY_NODE : get(cid), EMPTY, root),
+  recordJson: () => t.recordJson(blocks[0]),
+  jsonRecord: () => t.jsonRecord('{"k": [{"k": 1}]}'),
+  linkText: () => t.linkText(root.bytes),
+  linkFromText: () => t.linkFromText(EMPTY),
+  checkCar: () => t.checkCar(file),
+  openCar: () => t.Repository.openCar(100, file).close(),
   open: () => t.Repository.open(10).close(),
   list: () => one.list('', 10),
   entries: () => all(one),

@@ -8,7 +8,7 @@ import tizulgech as t
 from support import read
 
 TABLE = json.loads(read("bindings/cases.json"))
-ASIDE = {"call", "answer", "fault", "place", "cid"}
+ASIDE = {"call", "answer", "fault", "place", "cid", "path"}
 
 
 def whole(text):
@@ -65,6 +65,33 @@ def tree_apply(nodes, root, changes):
     return {"root": str(edit.root), "add": sorted([str(it), node.hex()] for it, node in edit.add), "drop": sorted(map(str, edit.drop)), "previous": previous}
 
 
+def node_entries(node):
+    entries = t.node_entries(data(node))
+    return {"left": text(entries.left), "pairs": [[key.decode(), str(value), text(link)] for key, value, link in entries.pairs]}
+
+
+def tree_prove_change(nodes, root, changes):
+    proof = t.tree_prove_change(host(nodes), cid(root), wanted(changes))
+    t.verify_change(cid(root), proof.after, proof.nodes, proof.changes)
+    return {"after": str(proof.after), "changes": [[key.decode(), text(before), text(after)] for key, before, after in proof.changes], "shown": True}
+
+
+def tree_difference(nodes, before, after):
+    found = t.tree_difference(host(nodes), cid(before), cid(after))
+    changes = [[key.decode(), text(old), text(new)] for key, old, new in found.changes]
+    return {"changes": changes, "add": sorted([str(it), node.hex()] for it, node in found.add), "drop": sorted(map(str, found.drop))}
+
+
+def check_car(file):
+    found = t.check_car(data(file))
+    return {"commit": str(found.commit), "root": str(found.root), "count": found.count, "did": found.did, "rev": found.rev}
+
+
+def open_car(limit, file):
+    with t.Repository.open_car(limit, data(file)) as repository:
+        return {"root": str(repository.root), "number": repository.number, "pairs": pairs(repository)}
+
+
 CALLS = {
     "record_fault": lambda bytes: t.check_record(data(bytes)),
     "write_fault": lambda write, there: t.check_write(globals()["write"](*write), there),
@@ -88,6 +115,16 @@ CALLS = {
     "tree_get": lambda nodes, root, key: text(t.tree_get(host(nodes), cid(root), key)),
     "tree_path": tree_path,
     "tree_apply": tree_apply,
+    "node_entries": node_entries,
+    "tree_list": lambda nodes, root, start, most: pairs(t.tree_list(host(nodes), cid(root), start, most)),
+    "tree_prove_change": tree_prove_change,
+    "tree_difference": tree_difference,
+    "record_json": lambda record: t.record_json(data(record)),
+    "json_record": lambda text: t.json_record(text).hex(),
+    "link_text": lambda bytes: t.link_text(data(bytes)),
+    "link_from_text": lambda text: t.link_from_text(text).hex(),
+    "check_car": check_car,
+    "open_car": open_car,
 }
 
 
@@ -139,7 +176,7 @@ class Cases(unittest.TestCase):
                 answer = call(**given)
             except t.Fault as fault:
                 self.assertEqual((fault.name, fault.number), (case.get("fault"), TABLE["faults"][fault.name]))
-                for name in ("place", "cid"):
+                for name in ("place", "cid", "path"):
                     if name in case:
                         self.assertEqual(str(getattr(fault, name)), str(case[name]))
             else:

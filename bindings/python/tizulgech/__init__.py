@@ -11,7 +11,10 @@
 A repository in memory: Repository, its writes, each a Write that Put, Create, Update or Delete makes, Applied, what a batch leaves, and Changed.
 What a batch is tested by: check_write, check_record, record_fault, check_stamp, is_did, is_tid, is_repository_key.
 
-A tree whose nodes a program keeps elsewhere: tree_apply, tree_get, tree_path, Edit, links, EMPTY_NODE, Missing, BadNode.
+A tree whose nodes a program keeps elsewhere: tree_apply, tree_get, tree_path, tree_list, tree_prove_change, tree_difference, Edit, Difference, links, node_entries, Entries,
+EMPTY_NODE, Missing, BadNode.
+
+Records as JSON: record_json, json_record, BadJson; the CIDs of blobs: link_text, link_from_text. Files: check_car, Export, Repository.open_car.
 
 Proofs: verify for single keys; verify_change, verify_inversion and ChangeProof for what a batch changed.
 
@@ -31,21 +34,25 @@ from ._declared import VERSION
 from ._library import version
 from .changes import ChangeProof, Told, verify_change, verify_inversion
 from .cids import Cid
-from .faults import FAULTS, FAULTS_OF_CIDS, FAULTS_OF_TREES, BadCid, Fault
+from .faults import FAULTS, FAULTS_OF_CIDS, FAULTS_OF_TREES, BadCid, BadJson, Fault
+from .files import Export, check_car
 from .keys import is_key, is_repository_key, layer
 from .listings import listing_car, tree_root
-from .nodes import EMPTY_NODE, BadNode, Missing, Nodes, links
+from .nodes import EMPTY_NODE, BadNode, Entries, Missing, Nodes, links, node_entries
 from .proofs import verify
+from .records import json_record, link_from_text, link_text, record_json
 from .repositories import Applied, Changed, Repository
 from .stamps import check_stamp, commit_bytes, is_did, is_tid
-from .trees import Edit, tree_apply, tree_get, tree_path
+from .trees import Difference, Edit, tree_apply, tree_difference, tree_get, tree_list, tree_path, tree_prove_change
 from .writes import Create, Delete, Put, Update, Write, check_record, check_write, record_fault
 
 __version__ = "0.3.0"
 
 __all__ = [
-    "Applied", "BadCid", "BadNode", "Bytes", "ChangeProof", "Changed", "Cid", "Create", "Delete", "EMPTY_NODE", "Edit", "FAULTS", "FAULTS_OF_CIDS",
-    "FAULTS_OF_TREES", "Fault", "Missing", "Nodes", "Put", "Repository", "Text", "Told", "Update", "VERSION", "Write", "check_record", "check_stamp",
-    "check_write", "commit_bytes", "is_did", "is_key", "is_repository_key", "is_tid", "layer", "links", "listing_car", "record_fault", "tree_apply", "tree_get",
-    "tree_path", "tree_root", "verify", "verify_change", "verify_inversion", "version",
+    "Applied", "BadCid", "BadJson", "BadNode", "Bytes", "ChangeProof", "Changed", "Cid", "Create", "Delete", "Difference", "EMPTY_NODE", "Edit",
+    "Entries", "Export", "FAULTS", "FAULTS_OF_CIDS", "FAULTS_OF_TREES", "Fault", "Missing", "Nodes", "Put", "Repository", "Text", "Told", "Update",
+    "VERSION", "Write", "check_car", "check_record", "check_stamp", "check_write", "commit_bytes", "is_did", "is_key", "is_repository_key", "is_tid",
+    "json_record", "layer", "link_from_text", "link_text", "links", "listing_car", "node_entries", "record_fault", "record_json", "tree_apply",
+    "tree_difference", "tree_get", "tree_list", "tree_path", "tree_prove_change", "tree_root", "verify", "verify_change", "verify_inversion",
+    "version",
 ]

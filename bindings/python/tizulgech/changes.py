@@ -5,6 +5,7 @@ from dataclasses import dataclass, field
 from typing import Any, Dict, Iterable, List, Mapping, Optional, Sequence, Tuple, TypeVar
 
 from . import _library
+from ._answers import Reader
 from ._arguments import Bytes, Text, bytes_of, joined, text_of
 from .cids import Cid, cid_of, value_of
 from .faults import FAULTS_OF_TREES, Fault
@@ -20,7 +21,7 @@ Change = Tuple[bytes, bytes]
 
 @dataclass(frozen=True)
 class ChangeProof:
-    """What changes make of a repository, and what shows it.
+    """What changes make of a tree, and what shows it.
 
     `after` is the root after them; `changes` are they, each a key, what it had and what it has, in the order of the keys; `nodes` are those of the
     tree before that doing them reads. Who knows the root before gives all of it to `verify_change`.
@@ -70,6 +71,12 @@ def _verify(name: str, before: Cid, after: Cid, proof: Iterable[Bytes], changes:
 def ordered(changes: Mapping[Key, Optional[Cid]]) -> List[Change]:
     """Changes in the order of their keys."""
     return sorted(((text_of(key), value_of(value)) for key, value in changes.items()), key=lambda it: it[0])
+
+
+def proof_of(reader: Reader, changes: Sequence[Change]) -> ChangeProof:
+    """The proof of these changes that the library wrote."""
+    after, told = reader.cid(), [(key, reader.value(), Cid(value) if any(value) else None) for key, value in changes]
+    return ChangeProof(after, told, reader.parts())
 
 
 def changes_of(changes: Sequence[Change]) -> Dict[str, Any]:

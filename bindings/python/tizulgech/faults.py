@@ -36,6 +36,27 @@ FAULTS: Dict[int, Tuple[str, str]] = {
     33: ("OTHER_VALUE", "a key has another value"),
     34: ("OTHER_ROOT", "the changes lead to another root"),
     35: ("NOT_TREE", "the nodes aren't a tree's"),
+    60: ("NOT_JSON", "the text is not JSON"),
+    61: ("DOUBLED_KEY", "a key stands twice in an object"),
+    62: ("JSON_FLOAT", "a number has a point or an exponent"),
+    63: ("JSON_RANGE", "a whole number is outside of -(2^53 - 1) to 2^53 - 1"),
+    64: ("JSON_LINK", "a link holds no CID of version 1 in base 32"),
+    65: ("JSON_BYTES", "bytes are not in base 64"),
+    66: ("JSON_DOLLAR", "an object with $link or $bytes has other keys"),
+    67: ("JSON_DEPTH", "lists and maps lie more than 64 levels deep"),
+    68: ("JSON_NOT_A_MAP", "the value is not a map"),
+    69: ("NO_JSON_FORM", "the record has no JSON form"),
+    70: ("NOT_THE_TREE", "the file does not have a whole tree under its commit"),
+    100: ("NOT_A_COMMIT", "the bytes are not those of a signed commit"),
+    101: ("COMMIT_DID", "the DID of the commit is not one"),
+    102: ("COMMIT_REV", "the revision of the commit is not a timestamp identifier"),
+    103: ("CAR_HEADER", "the file does not begin as a CAR with one root"),
+    104: ("CAR_LENGTH", "the length of a section is not a number in its shortest form"),
+    105: ("CAR_TRUNCATED", "the file ends within a section"),
+    106: ("CAR_CID", "a section does not begin with a CID of a block"),
+    123: ("MISNAMED", "a block has another CID"),
+    124: ("COMMIT_MISSING", "the commit is not among the blocks"),
+    127: ("RECORD_MISSING", "a record is missing"),
     249: ("OPEN", "the repository is open already"),
     250: ("CLOSED", "the repository is closed"),
     251: ("SMALL", "the room is too small"),
@@ -79,6 +100,17 @@ class Fault(Exception):
     def __reduce__(self) -> Tuple[Any, ...]:
         # So that another process is told the same.
         return _again, (type(self), str(self)), dict(vars(self))
+
+
+class BadJson(Fault, ValueError):
+    """A text is no record as JSON: NOT_JSON to JSON_NOT_A_MAP. `path` is the way to the first fault, `.key` and `[place]`, and empty where the whole
+    text is faulty. It is a ValueError too."""
+
+    path: str
+
+    def __init__(self, number: int, path: str) -> None:
+        super().__init__(number, sentence=f"{path}: {FAULTS[number][1]}" if path else None)
+        self.path = path
 
 
 class BadCid(Fault, ValueError):

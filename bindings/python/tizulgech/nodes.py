@@ -1,9 +1,11 @@
 """Nodes of trees, which a host has by their CIDs."""
 from __future__ import annotations
 
+from dataclasses import dataclass, field
 from typing import Callable, List, Optional, Tuple
 
 from . import _library
+from ._answers import Reader
 from ._arguments import Bytes, bytes_of
 from .cids import Cid
 from .faults import FAULTS_OF_TREES, Fault
@@ -40,6 +42,25 @@ def links(node: Bytes) -> List[Tuple[bool, Cid]]:
     raises a `Fault`, BAD_NODE."""
     found = _library.filled("links", node=bytes_of(node))
     return [(found[at] == 1, Cid(found[at + 1 : at + 37])) for at in range(0, len(found), 37)]
+
+
+@dataclass(frozen=True)
+class Entries:
+    """The pairs and the links of a node, from the front: `left` is the link before the first key, and each pair is a key, its record's CID, and the
+    link behind it; a link is None where there is none."""
+
+    left: Optional[Cid] = None
+    pairs: List[Tuple[bytes, Cid, Optional[Cid]]] = field(default_factory=list)
+
+
+def node_entries(node: Bytes) -> Entries:
+    """The pairs and the links of a node. A block that is no node raises a `Fault`, BAD_NODE."""
+    own = bytes_of(node)
+    reader = Reader(_library.filled("node_entries", 64 + 2 * len(own), node=own))
+    left, pairs = reader.value(), []
+    while reader:
+        pairs.append((reader.part(), reader.cid(), reader.value()))
+    return Entries(left, pairs)
 
 
 def node_of(nodes: Nodes, cid: Cid) -> bytes:

@@ -7,8 +7,8 @@ from typing import Any, ContextManager, Iterable, Iterator, List, Mapping, Optio
 
 from . import _library
 from ._answers import Reader
-from ._arguments import Text, number_of, text_of
-from .changes import ChangeProof, Key, Told, changes_of, ordered, told_of
+from ._arguments import Bytes, Text, bytes_of, number_of, text_of
+from .changes import ChangeProof, Key, Told, changes_of, ordered, proof_of, told_of
 from .cids import Cid
 from .faults import Fault
 from .nodes import links
@@ -45,6 +45,20 @@ class Repository:
     def __init__(self, limit: int) -> None:
         self._raw, self._lock = _library.Raw(), threading.RLock()
         self._told("open", limit=number_of(limit))
+
+    @classmethod
+    def open_car(cls, limit: int, file: Bytes) -> Repository:
+        """One with the records of a CAR file, as com.atproto.sync.getRepo serves it: they are one batch, under the DID and the revision of the file's
+        commit, and its root is the one that the commit names. Its own commit has no signature, and so another CID than the file's. A file without
+        records gives one without writes.
+
+        The faults are those of `check_car`; BAD of the limit, and WRITES_FULL where the file has more records than it."""
+        opened, place = cls.__new__(cls), _library.size()
+        opened._raw, opened._lock = _library.Raw(), threading.RLock()
+        number = _library.call("open_car", limit=number_of(limit), file=bytes_of(file), repository=opened._raw, place=place)
+        if number:
+            raise Fault(number, place.value)
+        return opened
 
     def __enter__(self) -> Repository:
         return self
@@ -227,9 +241,7 @@ class Repository:
         """What changes make of the repository as it is, and what shows it to whoever knows its root: ask before they are applied. Each key gets
         a value, or goes where that is None. Nothing is changed by it."""
         own = ordered(changes)
-        reader = Reader(self._filled("prove_change", first=_room_for_proof(len(own)), **changes_of(own)))
-        after, told = reader.cid(), [(key, reader.value(), Cid(value) if any(value) else None) for key, value in own]
-        return ChangeProof(after, told, reader.parts())
+        return proof_of(Reader(self._filled("prove_change", first=_room_for_proof(len(own)), **changes_of(own))), own)
 
     def prove_inversion(self, changes: Told) -> Sequence[bytes]:
         """The nodes that show that changes undone lead back from the repository as it is: each a key, what it had and what it has; the keys

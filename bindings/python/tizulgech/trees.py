@@ -6,11 +6,11 @@ from typing import Dict, List, Mapping, Optional, Sequence, Tuple
 
 from . import _library
 from ._answers import Reader
-from ._arguments import Text, joined, text_of
-from .changes import Change, Key, changes_of, ordered
+from ._arguments import Text, joined, number_of, text_of
+from .changes import Change, ChangeProof, Key, changes_of, ordered, proof_of
 from .cids import Cid, cid_of
 from .faults import FAULTS_OF_TREES, Fault
-from .nodes import BadNode, Missing, Nodes, node_of
+from .nodes import BadNode, Entries, Missing, Nodes, node_entries, node_of
 
 # No tree has more layers.
 MOST_NODES = 129
@@ -28,6 +28,16 @@ class Edit:
     add: List[Tuple[Cid, bytes]] = field(default_factory=list)
     drop: List[Cid] = field(default_factory=list)
     previous: List[Optional[Cid]] = field(default_factory=list)
+
+
+@dataclass(frozen=True)
+class Difference:
+    """What makes one tree of another: `changes`, of each key that differs what it has before and after, in the order of the keys; `add`, the nodes to
+    insert, of each its CID and its bytes; `drop`, the CIDs of those to remove."""
+
+    changes: List[Tuple[bytes, Optional[Cid], Optional[Cid]]] = field(default_factory=list)
+    add: List[Tuple[Cid, bytes]] = field(default_factory=list)
+    drop: List[Cid] = field(default_factory=list)
 
 
 def tree_path(nodes: Nodes, root: Cid, key: Text) -> Tuple[List[bytes], Optional[Cid]]:
@@ -52,6 +62,37 @@ def tree_get(nodes: Nodes, root: Cid, key: Text) -> Optional[Cid]:
     return tree_path(nodes, root, key)[1]
 
 
+def tree_list(nodes: Nodes, root: Cid, start: Text = b"", most: int = 256) -> List[Tuple[bytes, Cid]]:
+    """The first keys from one on, so many at most, each with its record's CID. No node is hashed; the faults are those of `tree_path`. The next ones
+    begin at the last key with a zero byte behind it."""
+    cid_of(root)
+    begin, count = text_of(start), number_of(most)
+    found: List[Tuple[bytes, Cid]] = []
+    # What is left, the next last: a pair, or a node by its CID with how many layers it may have.
+    left: List[Tuple[Optional[bytes], Cid, int]] = [(None, root, MOST_NODES)]
+    while left and len(found) < count:
+        key, cid, layers = left.pop()
+        if key is not None:
+            found.append((key, cid))
+            continue
+        if not layers:
+            raise Fault(31)
+        entries = _entries_of(cid, node_of(nodes, cid))
+        passed = sum(own < begin for own, _, _ in entries.pairs)
+        before = entries.pairs[passed - 1][2] if passed else entries.left
+        for own, value, link in reversed(entries.pairs[passed:]):
+            left += ([(None, link, layers - 1)] if link else []) + [(own, value, 0)]
+        left += [(None, before, layers - 1)] if before else []
+    return found
+
+
+def _entries_of(cid: Cid, node: bytes) -> Entries:
+    try:
+        return node_entries(node)
+    except Fault as fault:
+        raise BadNode(cid) if fault.number == 30 else fault
+
+
 def tree_apply(nodes: Nodes, root: Cid, changes: Mapping[Key, Optional[Cid]], known: bool = False) -> Edit:
     """Changes keys of a tree at once: each gets a value, or goes where that is None.
 
@@ -61,8 +102,57 @@ def tree_apply(nodes: Nodes, root: Cid, changes: Mapping[Key, Optional[Cid]], kn
 
     `Missing` and `BadNode` name the node; a `Fault` NOT_TREE or TOO_MANY_NODES says that the nodes are no tree's, and BAD that a key is none.
     """
+    own = ordered(changes)
+    return _edit(_over_asked("tree_apply", nodes, root, own, known), len(own))
+
+
+def tree_prove_change(nodes: Nodes, root: Cid, changes: Mapping[Key, Optional[Cid]], known: bool = False) -> ChangeProof:
+    """What changes make of a tree, and the nodes that show it to whoever knows its root, as `Repository.prove_change` has it of a repository in memory.
+    Nothing is changed by it. The nodes are asked for, and the faults come, as of `tree_apply`."""
+    own = ordered(changes)
+    return proof_of(_over_asked("tree_prove_change", nodes, root, own, known), own)
+
+
+def tree_difference(nodes: Nodes, before: Cid, after: Cid, known: bool = False) -> Difference:
+    """What the tree with one root differs by from that with the other. Of each tree just the nodes are asked for that the other lacks, and both roots:
+    layer by layer, each once, and each is hashed unless they are `known`. The faults are those of `tree_apply`."""
+    roots, given = {"before": cid_of(before), "after": cid_of(after)}, _Given(nodes)
+    while True:
+        found = Reader(_of_both("missing", "bad", given, roots, 36 * (len(given.given) + 16)))
+        if not found:
+            break
+        asked = []
+        while found:
+            asked.append(found.cid())
+        for cid in asked:
+            given.ask(cid)
+        if not known:
+            given.check(asked)
+    reader = Reader(_of_both("difference", "missing", given, roots, 1024 + 2 * sum(map(len, given.given.values()))))
+    changes = [(reader.part(), reader.value(), reader.value()) for _ in range(reader.number())]
+    drop, add = [reader.cid() for _ in range(reader.number())], []
+    while reader:
+        add.append((reader.cid(), reader.part()))
+    return Difference(changes, add, drop)
+
+
+def _of_both(name: str, room: str, given: _Given, roots: Mapping[str, bytes], first: int) -> bytes:
+    """The answer of a call over nodes of two trees."""
+    bad = _library.room()
+    nodes, node_ends = joined(given.given.values())
+    told = {"nodes": nodes, "node_ends": node_ends, "cids": b"".join(cid.bytes for cid in given.given), room: bad, **roots}
+    try:
+        return _library.filled(name, first, FAULTS_OF_TREES, **told)
+    except Fault as fault:
+        if fault.number in (2, 30):
+            raise (Missing if fault.number == 2 else BadNode)(Cid(bad.raw)) from None
+        raise
+
+
+def _over_asked(name: str, nodes: Nodes, root: Cid, own: Sequence[Change], known: bool) -> Reader:
+    """The answer of a call over the nodes that changes need, which are asked for layer by layer."""
     cid_of(root)
-    own, given = ordered(changes), _Given(nodes)
+    given = _Given(nodes)
     try:
         given.ask_below(root, own)
     except Fault:
@@ -74,7 +164,7 @@ def tree_apply(nodes: Nodes, root: Cid, changes: Mapping[Key, Optional[Cid]], kn
         given.check(list(given.given))
     while True:
         try:
-            return _edit(_edited(given.given, root, own), len(own))
+            return _answered(name, given.given, root, own)
         except Missing as fault:
             # Nodes that are no tree's may need another one.
             cid = fault.cid
@@ -125,8 +215,8 @@ def _below(cid: Cid, node: bytes, changes: Sequence[Change]) -> List[Tuple[Cid, 
     return links
 
 
-def _edited(given: Mapping[Cid, bytes], root: Cid, changes: Sequence[Change]) -> Reader:
-    """What the library answers to changes over these nodes."""
+def _answered(name: str, given: Mapping[Cid, bytes], root: Cid, changes: Sequence[Change]) -> Reader:
+    """What a call of the library answers to changes over these nodes."""
     missing, told = _library.room(), changes_of(changes)
     nodes, node_ends = joined(given.values())
     cids = b"".join(cid.bytes for cid in given)
@@ -134,7 +224,7 @@ def _edited(given: Mapping[Cid, bytes], root: Cid, changes: Sequence[Change]) ->
     first = len(nodes) + 128 * len(node_ends) + len(told["keys"]) + 256 * len(changes) + 1024
     told.update(nodes=nodes, node_ends=node_ends, cids=cids, root=root.bytes, missing=missing)
     try:
-        return Reader(_library.filled("tree_apply", first, FAULTS_OF_TREES, **told))
+        return Reader(_library.filled(name, first, FAULTS_OF_TREES, **told))
     except Fault as fault:
         if fault.number in (2, 30):
             raise (Missing if fault.number == 2 else BadNode)(Cid(missing.raw)) from None

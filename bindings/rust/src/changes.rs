@@ -1,7 +1,8 @@
 //! Which keys changed between two roots, as a proof shows: forward from the root before, or back from the root after.
 use crate::faults::ChangeFault;
-use crate::framing::Joined;
+use crate::framing::{Joined, Reader};
 use crate::sys;
+use crate::tree::Change;
 use crate::values::Cid;
 
 /// A key, and the CID of its record before and after a change; `None` where there is no such key.
@@ -44,7 +45,7 @@ pub struct ChangeProof {
     pub nodes: Vec<Vec<u8>>,
 }
 
-/// What changes make of a repository, and what shows it: what `Repository::prove_change` makes.
+/// What changes make of a tree, and what shows it: what `Repository::prove_change` and `tree::prove_change` make.
 #[derive(Clone, Debug, PartialEq, Eq)]
 pub struct ProvenChange<'a> {
     /// The root after the changes.
@@ -53,6 +54,17 @@ pub struct ProvenChange<'a> {
     pub changes: Vec<KeyChange<'a>>,
     /// The nodes of the tree before that doing them reads.
     pub proof: ChangeProof,
+}
+
+impl<'a> ProvenChange<'a> {
+    /// What the library wrote of these changes.
+    pub(crate) fn read(bytes: &[u8], changes: &[Change<'a>]) -> ProvenChange<'a> {
+        let mut reader = Reader(bytes);
+        let after = reader.cid();
+        let told = |change: &Change<'a>| KeyChange { key: change.key, before: reader.value(), after: change.value };
+        let changes = changes.iter().map(told).collect();
+        ProvenChange { after, changes, proof: ChangeProof { nodes: reader.parts() } }
+    }
 }
 
 impl ChangeProof {

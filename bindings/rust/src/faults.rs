@@ -35,6 +35,27 @@ const OF_ALL: Names = &[
     (33, "OTHER_VALUE"),
     (34, "OTHER_ROOT"),
     (35, "NOT_TREE"),
+    (60, "NOT_JSON"),
+    (61, "DOUBLED_KEY"),
+    (62, "JSON_FLOAT"),
+    (63, "JSON_RANGE"),
+    (64, "JSON_LINK"),
+    (65, "JSON_BYTES"),
+    (66, "JSON_DOLLAR"),
+    (67, "JSON_DEPTH"),
+    (68, "JSON_NOT_A_MAP"),
+    (69, "NO_JSON_FORM"),
+    (70, "NOT_THE_TREE"),
+    (100, "NOT_A_COMMIT"),
+    (101, "COMMIT_DID"),
+    (102, "COMMIT_REV"),
+    (103, "CAR_HEADER"),
+    (104, "CAR_LENGTH"),
+    (105, "CAR_TRUNCATED"),
+    (106, "CAR_CID"),
+    (123, "MISNAMED"),
+    (124, "COMMIT_MISSING"),
+    (127, "RECORD_MISSING"),
     (252, "BAD"),
     (253, "CLASH"),
     (254, "FULL"),
@@ -145,6 +166,232 @@ faults! {
         NoMemory = 255 "out of memory",
     } named by OF_TREES
 }
+faults! {
+    /// What is wrong with a text that is to be a record as JSON.
+    JsonFault {
+        NotJson = 60 "the text is not JSON",
+        DoubledKey = 61 "a key stands twice in an object",
+        Float = 62 "a number has a point or an exponent",
+        IntegerRange = 63 "a whole number is outside of -(2^53 - 1) to 2^53 - 1",
+        BadLink = 64 "a link holds no CID of version 1 in base 32",
+        BadBytes = 65 "bytes are not in base 64",
+        BadDollar = 66 "an object with $link or $bytes has other keys",
+        TooDeep = 67 "lists and maps lie more than 64 levels deep",
+        NotAMap = 68 "the value is not a map",
+        NoMemory = 255 "out of memory",
+    } named by OF_ALL
+}
+faults! {
+    /// Why bytes are no link's CID, or a text is none's.
+    LinkFault {
+        Bad = 252 "not a CID of version 1",
+        NoMemory = 255 "out of memory",
+    } named by OF_ALL
+}
+
+/// A record's text isn't taken: its first fault, and the way to it.
+#[derive(Clone, Debug, PartialEq, Eq)]
+pub struct JsonError {
+    /// What is wrong.
+    pub fault: JsonFault,
+    /// The way to it from the outside, `.key` and `[place]`; empty where the whole text is faulty.
+    pub path: String,
+}
+
+impl fmt::Display for JsonError {
+    fn fmt(&self, f: &mut fmt::Formatter<'_>) -> fmt::Result {
+        if self.path.is_empty() { self.fault.fmt(f) } else { write!(f, "{}: {}", self.path, self.fault) }
+    }
+}
+impl Error for JsonError {}
+
+/// Why a record has no JSON text.
+#[derive(Clone, Copy, Debug, PartialEq, Eq)]
+#[non_exhaustive]
+pub enum RecordJsonFault {
+    /// The bytes are no value in DAG-CBOR.
+    BadRecord(RecordFault),
+    /// It has a whole number outside of -(2^53 - 1) to 2^53 - 1, a link that isn't of version 1, or a key `$link` or `$bytes`.
+    NoForm,
+}
+
+impl RecordJsonFault {
+    pub(crate) fn of(number: u8) -> RecordJsonFault {
+        use RecordJsonFault::*;
+        match number {
+            69 => NoForm,
+            number => BadRecord(RecordFault::of(number)),
+        }
+    }
+
+    /// The number that the C header has for it.
+    pub fn number(&self) -> u8 {
+        match self {
+            RecordJsonFault::BadRecord(fault) => fault.number(),
+            RecordJsonFault::NoForm => 69,
+        }
+    }
+
+    /// The name that the C header has for it, without `TIZULGECH_`.
+    pub fn name(&self) -> &'static str {
+        name_in(OF_ALL, self.number())
+    }
+}
+
+impl fmt::Display for RecordJsonFault {
+    fn fmt(&self, f: &mut fmt::Formatter<'_>) -> fmt::Result {
+        match self {
+            RecordJsonFault::BadRecord(fault) => fault.fmt(f),
+            RecordJsonFault::NoForm => f.write_str("the record has no JSON form"),
+        }
+    }
+}
+impl Error for RecordJsonFault {}
+
+/// A file isn't the export of a repository: its first fault.
+#[derive(Clone, Copy, Debug, PartialEq, Eq)]
+pub struct CheckError {
+    /// The place of the record that isn't taken, from 0; 0 where something else is faulty.
+    pub place: usize,
+    /// What is wrong.
+    pub fault: CheckFault,
+}
+
+/// What is wrong with a file that is to be the export of a repository, in the order of the tests.
+#[derive(Clone, Copy, Debug, PartialEq, Eq)]
+#[non_exhaustive]
+pub enum CheckFault {
+    /// It doesn't begin as a CAR with one root.
+    CarHeader,
+    /// The length of a section is no number in its shortest form.
+    CarLength,
+    /// It ends within a section.
+    CarTruncated,
+    /// A section doesn't begin with a CID of a block.
+    CarCid,
+    /// The CID of a section isn't that of its block.
+    Misnamed,
+    /// It hasn't the block that its header names.
+    CommitMissing,
+    /// That block isn't a signed commit.
+    NotACommit,
+    /// The commit's DID isn't one.
+    CommitDid,
+    /// The commit's revision isn't a timestamp identifier.
+    CommitRev,
+    /// It hasn't the whole tree that the commit names.
+    NotTheTree,
+    /// A key isn't that of a record.
+    BadKey,
+    /// It hasn't a record.
+    RecordMissing,
+    /// A record has more than 1,048,576 bytes.
+    RecordSize,
+    /// A record isn't DAG-CBOR.
+    BadRecord(RecordFault),
+    /// A record is no map.
+    NotAMap,
+    /// The limit of the repository that was to be opened isn't 1 to 1,048,576: of [`Repository::open_car`](crate::Repository::open_car) alone.
+    Limit,
+    /// It has more records than that limit.
+    WritesFull,
+    /// Two different blocks have one CID.
+    Clash,
+    /// The repository's store is full.
+    StoreFull,
+    /// Memory was refused.
+    NoMemory,
+}
+
+impl CheckFault {
+    pub(crate) fn of(number: u8) -> CheckFault {
+        use CheckFault::*;
+        match number {
+            20 => BadKey,
+            21 => NotAMap,
+            22 => RecordSize,
+            25 => WritesFull,
+            101 => CommitDid,
+            102 => CommitRev,
+            103 => CarHeader,
+            104 => CarLength,
+            105 => CarTruncated,
+            106 => CarCid,
+            123 => Misnamed,
+            124 => CommitMissing,
+            100 => NotACommit,
+            70 => NotTheTree,
+            127 => RecordMissing,
+            252 => Limit,
+            253 => Clash,
+            254 => StoreFull,
+            255 => NoMemory,
+            number => BadRecord(RecordFault::of(number)),
+        }
+    }
+
+    /// The number that the C header has for it.
+    pub fn number(&self) -> u8 {
+        match self {
+            CheckFault::BadRecord(fault) => fault.number(),
+            CheckFault::BadKey => 20,
+            CheckFault::NotAMap => 21,
+            CheckFault::RecordSize => 22,
+            CheckFault::WritesFull => 25,
+            CheckFault::CommitDid => 101,
+            CheckFault::CommitRev => 102,
+            CheckFault::CarHeader => 103,
+            CheckFault::CarLength => 104,
+            CheckFault::CarTruncated => 105,
+            CheckFault::CarCid => 106,
+            CheckFault::Misnamed => 123,
+            CheckFault::CommitMissing => 124,
+            CheckFault::NotACommit => 100,
+            CheckFault::NotTheTree => 70,
+            CheckFault::RecordMissing => 127,
+            CheckFault::Limit => 252,
+            CheckFault::Clash => 253,
+            CheckFault::StoreFull => 254,
+            CheckFault::NoMemory => 255,
+        }
+    }
+
+    /// The name that the C header has for it, without `TIZULGECH_`.
+    pub fn name(&self) -> &'static str {
+        name_in(OF_ALL, self.number())
+    }
+}
+
+impl fmt::Display for CheckError {
+    fn fmt(&self, f: &mut fmt::Formatter<'_>) -> fmt::Result {
+        use CheckFault::*;
+        let text = match self.fault {
+            CarHeader => "the file does not begin as a CAR with one root",
+            CarLength => "the length of a section is not a number in its shortest form",
+            CarTruncated => "the file ends within a section",
+            CarCid => "a section does not begin with a CID of a block",
+            Misnamed => "the CID of a section is not that of its block",
+            CommitMissing => "the root is not in the file",
+            NotACommit => "the root is not a signed commit",
+            CommitDid => "the DID is not one",
+            CommitRev => "the revision is not a timestamp identifier",
+            NotTheTree => "the file does not have a whole tree under its commit",
+            BadKey => return write!(f, "record {}: the key is not that of a record", self.place),
+            RecordMissing => return write!(f, "record {}: it is not in the file", self.place),
+            RecordSize => return write!(f, "record {}: it is too long", self.place),
+            BadRecord(fault) => return write!(f, "record {}: it is not DAG-CBOR: {fault}", self.place),
+            NotAMap => return write!(f, "record {}: it is not a map", self.place),
+            Limit => "a repository may have 1 to 1,048,576 writes",
+            WritesFull => "the file has more records than the repository takes",
+            Clash => "two different blocks have one CID",
+            StoreFull => "the store is full",
+            NoMemory => "out of memory",
+        };
+        f.write_str(text)
+    }
+}
+impl Error for CheckError {}
+
 /// Why blocks don't show some changes.
 ///
 /// Whose nodes are given is the tree before for `ChangeProof::verify`, and the tree after for `InversionProof::verify`.

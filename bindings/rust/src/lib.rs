@@ -4,6 +4,8 @@
 //! - [`tree`] changes a tree whose nodes stand elsewhere, as in a database.
 //! - [`ChangeProof`] shows which keys changed from one root to the next to whoever knows the first, step by step; [`InversionProof`]
 //!   undoes changes, as the event stream's operation inversion does.
+//! - [`record_json`] and [`json_record`] are records as JSON, [`link_text`] the text of a blob's CID, and [`check_car`] tells whose
+//!   repository a file is the export of.
 //! - [`Cid`], [`check_record`], [`check_write`], [`check_stamp`], [`commit_bytes`], [`tree_root`], [`listing_car`] and [`Proof`] need no state.
 //!
 //! ```
@@ -34,7 +36,7 @@
 //! # What is proved, and what is trusted
 //!
 //! What is proved ends at the calls of the C interface: each has a contract, which is proved of its code together with its
-//! safety and its end. Of this crate nothing is proved: 1,800 lines of code, which tests try call by call.
+//! safety and its end. Of this crate nothing is proved: 2,400 lines of code, which tests try call by call.
 //! Trusted are:
 //!
 //! - that the declarations in `sys` are those of the library, and pass on what they are given in its order (a script of the
@@ -54,6 +56,7 @@
 mod changes;
 mod faults;
 mod framing;
+mod records;
 mod repository;
 #[allow(missing_docs)]
 mod sys;
@@ -62,9 +65,10 @@ mod values;
 
 pub use changes::{ChangeProof, InversionProof, KeyChange, ProvenChange};
 pub use faults::{
-    BatchError, BatchFault, ChangeFault, CidFault, NoMemory, NodeFault, OpenError, ProofFault, ProvingFault, RecordFault,
-    StampFault, TreeFault,
+    BatchError, BatchFault, ChangeFault, CheckError, CheckFault, CidFault, JsonError, JsonFault, LinkFault, NoMemory, NodeFault,
+    OpenError, ProofFault, ProvingFault, RecordFault, RecordJsonFault, StampFault, TreeFault,
 };
+pub use records::{Export, check_car, json_record, link_from_text, link_text, record_json};
 pub use repository::{Applied, CarParts, Pairs, Repository, Stamp, Write};
 pub use values::{
     Cid, Proof, VERSION, check_record, check_stamp, check_write, commit_bytes, is_did, is_key, is_repository_key, is_tid, layer,

@@ -1,6 +1,6 @@
 //! A repository in memory.
-use crate::changes::{ChangeProof, InversionProof, KeyChange, ProvenChange, Told};
-use crate::faults::{BatchError, BatchFault, NoMemory, OpenError, ProvingFault};
+use crate::changes::{InversionProof, KeyChange, ProvenChange, Told};
+use crate::faults::{BatchError, BatchFault, CheckError, CheckFault, NoMemory, OpenError, ProvingFault};
 use crate::framing::{Reader, filled};
 use crate::sys;
 use crate::tree::{self, Link, links_of};
@@ -108,6 +108,22 @@ impl Repository {
             Ok(handle) => Ok(Repository { handle }),
             Err(252) => Err(OpenError::Limit),
             Err(_) => Err(OpenError::NoMemory),
+        }
+    }
+
+    /// A repository with the records of a CAR file, as `com.atproto.sync.getRepo` serves it, that takes at most so many writes: its
+    /// records are one batch, under the DID and the revision of the file's commit, and its root is the one that the commit names.
+    /// Its own commit has no signature, and so another CID than the file's. A file without records gives one without writes.
+    ///
+    /// ```
+    /// use tizulgech::{CheckFault, Repository};
+    /// assert_eq!(Repository::open_car(1000, b"no file").err().unwrap().fault, CheckFault::CarHeader);
+    /// ```
+    pub fn open_car(limit: usize, file: &[u8]) -> Result<Repository, CheckError> {
+        let mut place = 0;
+        match sys::Handle::open_car(limit, file, &mut place) {
+            Ok(handle) => Ok(Repository { handle }),
+            Err(number) => Err(CheckError { place, fault: CheckFault::of(number) }),
         }
     }
 
@@ -272,11 +288,7 @@ impl Repository {
             self.handle.prove_change(wanted.keys.parts(), &wanted.values, out, size)
         });
         let bytes = bytes.map_err(|number| ProvingFault::of(number, 0))?;
-        let mut reader = Reader(&bytes);
-        let after = reader.cid();
-        let told = |change: &tree::Change<'a>| KeyChange { key: change.key, before: reader.value(), after: change.value };
-        let changes = changes.iter().map(told).collect();
-        Ok(ProvenChange { after, changes, proof: ChangeProof { nodes: reader.parts() } })
+        Ok(ProvenChange::read(&bytes, changes))
     }
 
     /// The proof that some changes, whose keys ascend strictly, undone lead back from the repository as it is. Whoever has it and

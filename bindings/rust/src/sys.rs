@@ -183,7 +183,70 @@ unsafe extern "C" {
         room: usize,
         size: *mut usize,
     ) -> u8;
+    pub fn tizulgech_node_entries(node: *const u8, len: usize, out: *mut u8, room: usize, size: *mut usize) -> u8;
+    pub fn tizulgech_tree_prove_change(
+        nodes: *const u8,
+        nodes_len: usize,
+        node_ends: *const usize,
+        node_count: usize,
+        cids: *const u8,
+        cids_len: usize,
+        root: *const u8,
+        root_len: usize,
+        keys: *const u8,
+        keys_len: usize,
+        key_ends: *const usize,
+        key_count: usize,
+        values: *const u8,
+        values_len: usize,
+        missing: *mut u8,
+        missing_room: usize,
+        out: *mut u8,
+        room: usize,
+        size: *mut usize,
+    ) -> u8;
+    pub fn tizulgech_difference(
+        nodes: *const u8,
+        nodes_len: usize,
+        node_ends: *const usize,
+        node_count: usize,
+        cids: *const u8,
+        cids_len: usize,
+        before: *const u8,
+        before_len: usize,
+        after: *const u8,
+        after_len: usize,
+        missing: *mut u8,
+        missing_room: usize,
+        out: *mut u8,
+        room: usize,
+        size: *mut usize,
+    ) -> u8;
+    pub fn tizulgech_missing(
+        nodes: *const u8,
+        nodes_len: usize,
+        node_ends: *const usize,
+        node_count: usize,
+        cids: *const u8,
+        cids_len: usize,
+        before: *const u8,
+        before_len: usize,
+        after: *const u8,
+        after_len: usize,
+        bad: *mut u8,
+        bad_room: usize,
+        out: *mut u8,
+        room: usize,
+        size: *mut usize,
+    ) -> u8;
+    pub fn tizulgech_record_json(bytes: *const u8, len: usize, out: *mut u8, room: usize, size: *mut usize) -> u8;
+    pub fn tizulgech_json_record(text: *const u8, len: usize, out: *mut u8, room: usize, size: *mut usize) -> u8;
+    pub fn tizulgech_link_text(cid: *const u8, len: usize, out: *mut u8, room: usize, size: *mut usize) -> u8;
+    pub fn tizulgech_link_from_text(text: *const u8, len: usize, out: *mut u8, room: usize, size: *mut usize) -> u8;
+    pub fn tizulgech_check_car(file: *const u8, len: usize, place: *mut usize, out: *mut u8, room: usize, size: *mut usize)
+    -> u8;
     pub fn tizulgech_open(limit: usize, repository: *mut Raw) -> u8;
+    pub fn tizulgech_open_car(limit: usize, file: *const u8, len: usize, repository: *mut Raw, place: *mut usize) -> u8;
     pub fn tizulgech_close(repository: *mut Raw);
     pub fn tizulgech_stage(
         repository: *mut Raw,
@@ -455,6 +518,126 @@ pub fn tree_apply(
     }
 }
 
+pub fn node_entries(node: &[u8], out: &mut [u8], size: &mut usize) -> u8 {
+    // SAFETY: as above.
+    unsafe { tizulgech_node_entries(node.as_ptr(), node.len(), out.as_mut_ptr(), out.len(), size) }
+}
+
+pub fn tree_prove_change(
+    nodes: Parts<'_>,
+    cids: &[u8],
+    root: &Cid,
+    keys: Parts<'_>,
+    values: &[u8],
+    missing: &mut Cid,
+    out: &mut [u8],
+    size: &mut usize,
+) -> u8 {
+    // SAFETY: as above, and room for 36 bytes.
+    unsafe {
+        tizulgech_tree_prove_change(
+            nodes.bytes.as_ptr(),
+            nodes.bytes.len(),
+            nodes.ends.as_ptr(),
+            nodes.ends.len(),
+            cids.as_ptr(),
+            cids.len(),
+            root.as_ptr(),
+            36,
+            keys.bytes.as_ptr(),
+            keys.bytes.len(),
+            keys.ends.as_ptr(),
+            keys.ends.len(),
+            values.as_ptr(),
+            values.len(),
+            missing.as_mut_ptr(),
+            36,
+            out.as_mut_ptr(),
+            out.len(),
+            size,
+        )
+    }
+}
+
+pub fn difference(
+    nodes: Parts<'_>,
+    cids: &[u8],
+    before: &Cid,
+    after: &Cid,
+    missing: &mut Cid,
+    out: &mut [u8],
+    size: &mut usize,
+) -> u8 {
+    // SAFETY: as above, and room for 36 bytes.
+    unsafe {
+        tizulgech_difference(
+            nodes.bytes.as_ptr(),
+            nodes.bytes.len(),
+            nodes.ends.as_ptr(),
+            nodes.ends.len(),
+            cids.as_ptr(),
+            cids.len(),
+            before.as_ptr(),
+            36,
+            after.as_ptr(),
+            36,
+            missing.as_mut_ptr(),
+            36,
+            out.as_mut_ptr(),
+            out.len(),
+            size,
+        )
+    }
+}
+
+pub fn missing(nodes: Parts<'_>, cids: &[u8], before: &Cid, after: &Cid, bad: &mut Cid, out: &mut [u8], size: &mut usize) -> u8 {
+    // SAFETY: as above, and room for 36 bytes.
+    unsafe {
+        tizulgech_missing(
+            nodes.bytes.as_ptr(),
+            nodes.bytes.len(),
+            nodes.ends.as_ptr(),
+            nodes.ends.len(),
+            cids.as_ptr(),
+            cids.len(),
+            before.as_ptr(),
+            36,
+            after.as_ptr(),
+            36,
+            bad.as_mut_ptr(),
+            36,
+            out.as_mut_ptr(),
+            out.len(),
+            size,
+        )
+    }
+}
+
+pub fn record_json(bytes: &[u8], out: &mut [u8], size: &mut usize) -> u8 {
+    // SAFETY: as above.
+    unsafe { tizulgech_record_json(bytes.as_ptr(), bytes.len(), out.as_mut_ptr(), out.len(), size) }
+}
+
+pub fn json_record(text: &[u8], out: &mut [u8], size: &mut usize) -> u8 {
+    // SAFETY: as above.
+    unsafe { tizulgech_json_record(text.as_ptr(), text.len(), out.as_mut_ptr(), out.len(), size) }
+}
+
+pub fn link_text(cid: &[u8], out: &mut [u8], size: &mut usize) -> u8 {
+    // SAFETY: as above.
+    unsafe { tizulgech_link_text(cid.as_ptr(), cid.len(), out.as_mut_ptr(), out.len(), size) }
+}
+
+pub fn link_from_text(text: &[u8], out: &mut [u8], size: &mut usize) -> u8 {
+    // SAFETY: as above.
+    unsafe { tizulgech_link_from_text(text.as_ptr(), text.len(), out.as_mut_ptr(), out.len(), size) }
+}
+
+pub fn check_car(file: &[u8], place: &mut usize, out: &mut [u8], size: &mut usize) -> u8 {
+    // SAFETY: as above.
+    unsafe { tizulgech_check_car(file.as_ptr(), file.len(), place, out.as_mut_ptr(), out.len(), size) }
+}
+
 pub fn verify(blocks: Parts<'_>, root: &Cid, key: &[u8], value: &mut Cid) -> u8 {
     // SAFETY: as above, and room for 36 bytes.
     unsafe {
@@ -584,6 +767,15 @@ impl Handle {
         let mut raw = Raw { is_open: false, at: null_mut() };
         // SAFETY: a repository that isn't open.
         match unsafe { tizulgech_open(limit, &mut raw) } {
+            0 => Ok(Handle { raw: UnsafeCell::new(raw) }),
+            number => Err(number),
+        }
+    }
+
+    pub fn open_car(limit: usize, file: &[u8], place: &mut usize) -> Result<Handle, u8> {
+        let mut raw = Raw { is_open: false, at: null_mut() };
+        // SAFETY: a repository that isn't open, and a slice.
+        match unsafe { tizulgech_open_car(limit, file.as_ptr(), file.len(), &mut raw, place) } {
             0 => Ok(Handle { raw: UnsafeCell::new(raw) }),
             number => Err(number),
         }

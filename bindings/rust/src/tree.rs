@@ -51,6 +51,7 @@
 //! assert!(found.root == before && found.previous == told.map(|(_, _, is)| is));
 //! # Ok::<(), Box<dyn std::error::Error>>(())
 //! ```
+use crate::changes::ProvenChange;
 pub use crate::faults::EditError;
 use crate::faults::NodeFault;
 use crate::framing::{Joined, Reader, filled};
@@ -84,6 +85,28 @@ pub struct Edit {
     pub drop: Vec<Cid>,
     /// The value that the key of each change had before.
     pub previous: Vec<Option<Cid>>,
+}
+
+/// A key that two trees differ in.
+#[derive(Clone, Debug, PartialEq, Eq)]
+pub struct Differing {
+    /// The key.
+    pub key: Vec<u8>,
+    /// The CID of its record in the tree before.
+    pub before: Option<Cid>,
+    /// The CID of its record in the tree after.
+    pub after: Option<Cid>,
+}
+
+/// What makes one tree of another.
+#[derive(Clone, Debug, PartialEq, Eq)]
+pub struct Difference {
+    /// The keys that differ, in their order.
+    pub changes: Vec<Differing>,
+    /// The nodes of the tree after that the other lacks, to insert, each under its CID.
+    pub add: Vec<(Cid, Vec<u8>)>,
+    /// The CIDs of the nodes of the tree before that the other lacks, to remove.
+    pub drop: Vec<Cid>,
 }
 
 /// A node as a host hands it in for the CID that it is asked for: its bytes, owned or lent, which are hashed to see whether they are of
@@ -187,6 +210,47 @@ pub(crate) fn links_of(node: &[u8]) -> Result<Vec<Link>, u8> {
     let links = filled(37 * 64, |out, size| sys::links(node, out, size))?;
     let cids = links.chunks_exact(37).map(|link| (link[0], Cid(link[1..].try_into().expect("36 bytes"))));
     Ok(cids.map(|(kind, cid)| if kind == 1 { Link::Node(cid) } else { Link::Record(cid) }).collect())
+}
+
+/// The pairs and the links of a node, from the front.
+#[derive(Clone, Debug, PartialEq, Eq)]
+pub struct Entries {
+    /// The link before the first key.
+    pub left: Option<Cid>,
+    /// The pairs, each with the link behind it.
+    pub pairs: Vec<Entry>,
+}
+
+/// A pair of a node.
+#[derive(Clone, Debug, PartialEq, Eq)]
+pub struct Entry {
+    /// The key.
+    pub key: Vec<u8>,
+    /// The CID of its record.
+    pub value: Cid,
+    /// The link behind it.
+    pub link: Option<Cid>,
+}
+
+/// The pairs and the links of a node.
+///
+/// ```
+/// use tizulgech::{NodeFault, tree};
+/// assert_eq!(tree::entries(tree::EMPTY_NODE), Ok(tree::Entries { left: None, pairs: vec![] }));
+/// assert_eq!(tree::entries(b"another block"), Err(NodeFault::BadNode));
+/// ```
+pub fn entries(node: impl AsRef<[u8]>) -> Result<Entries, NodeFault> {
+    entries_of(node.as_ref()).map_err(NodeFault::of)
+}
+
+fn entries_of(node: &[u8]) -> Result<Entries, u8> {
+    let bytes = filled(36 + 2 * node.len(), |out, size| sys::node_entries(node, out, size))?;
+    let mut reader = Reader(&bytes);
+    let (left, mut pairs) = (reader.value(), Vec::new());
+    while !reader.is_empty() {
+        pairs.push(Entry { key: reader.part().to_vec(), value: reader.cid(), link: reader.value() });
+    }
+    Ok(Entries { left, pairs })
 }
 
 /// The nodes that a host was asked for, each once, and their CIDs, 36 bytes each, in the same order.
@@ -328,6 +392,55 @@ pub fn path<N: Node, E>(
     Ok((Proof { nodes: asked.given.each().map(<[u8]>::to_vec).collect() }, value))
 }
 
+/// The first pairs from a key on, so many at most. The nodes are taken to have the CIDs that they stand under: nothing is hashed. The
+/// next ones begin at the last key with a zero byte behind it.
+///
+/// ```
+/// # use std::{collections::HashMap, convert::Infallible};
+/// # use tizulgech::{Cid, tree};
+/// # let edit = tree::put(|_| Ok::<_, Infallible>(Some(tree::EMPTY_NODE)), &tree::EMPTY_ROOT.parse()?, "a/b", &Cid::of(b""))?;
+/// # let (root, nodes): (Cid, HashMap<Cid, Vec<u8>>) = (edit.root, edit.add.into_iter().collect());
+/// let pairs = tree::list(|cid| Ok::<_, Infallible>(nodes.get(cid)), &root, "a", 100)?;
+/// assert_eq!(pairs, [(b"a/b".to_vec(), Cid::of(b""))]);
+/// # Ok::<(), Box<dyn std::error::Error>>(())
+/// ```
+pub fn list<N: Node, E>(
+    mut nodes: impl FnMut(&Cid) -> Result<Option<N>, E>,
+    root: &Cid,
+    from: impl AsRef<[u8]>,
+    most: usize,
+) -> Result<Vec<(Vec<u8>, Cid)>, EditError<E>> {
+    let (from, mut found) = (from.as_ref(), Vec::new());
+    // What is left, the next last: a node to be opened, with how many layers it may have, or a pair.
+    enum Left {
+        Node(Cid, usize),
+        Pair(Vec<u8>, Cid),
+    }
+    let mut left = vec![Left::Node(*root, 129)];
+    while found.len() < most {
+        match left.pop() {
+            None => break,
+            Some(Left::Pair(key, value)) => found.push((key, value)),
+            Some(Left::Node(_, 0)) => return Err(EditError::TooDeep),
+            Some(Left::Node(cid, layers)) => {
+                let node = nodes(&cid).map_err(EditError::Source)?.ok_or(EditError::Missing(cid))?;
+                if !node.may_be_of(&cid) {
+                    return Err(EditError::BadNode(cid));
+                }
+                let Entries { left: first, pairs } = entries_of(node.bytes()).map_err(|number| EditError::of(number, cid))?;
+                let passed = pairs.iter().take_while(|pair| pair.key.as_slice() < from).count();
+                let before = if passed == 0 { first } else { pairs[passed - 1].link };
+                for Entry { key, value, link } in pairs.into_iter().skip(passed).rev() {
+                    left.extend(link.map(|link| Left::Node(link, layers - 1)));
+                    left.push(Left::Pair(key, value));
+                }
+                left.extend(before.map(|link| Left::Node(link, layers - 1)));
+            }
+        }
+    }
+    Ok(found)
+}
+
 /// Puts a key with a value into a tree: a batch of one change.
 pub fn put<N: Node, E>(
     nodes: impl FnMut(&Cid) -> Result<Option<N>, E>,
@@ -356,6 +469,104 @@ pub fn apply<N: Node, E>(
     root: &Cid,
     changes: &[Change<'_>],
 ) -> Result<Edit, EditError<E>> {
+    let told = |asked: &Asked<_>, wanted: &Wanted, missing: &mut [u8; 36]| {
+        // Room for the answer of nearly any edit: where it is too small all is made once more.
+        let first = asked.given.len() + 128 * asked.places.len() + wanted.keys.len() + 256 * changes.len() + 1024;
+        filled(first, |out, size| {
+            let (nodes, keys) = (asked.given.parts(), wanted.keys.parts());
+            sys::tree_apply(nodes, &asked.cids, &root.0, keys, &wanted.values, missing, out, size)
+        })
+    };
+    Ok(read(&over_asked(nodes, root, changes, told)?, changes.len()))
+}
+
+/// What changes make of a tree, and the nodes that show it to whoever knows its root: as
+/// [`Repository::prove_change`](crate::Repository::prove_change) has it of a repository in memory. Nothing is changed by it. The nodes
+/// are asked for, and the faults come, as of [`apply`].
+///
+/// ```
+/// # use std::{collections::HashMap, convert::Infallible};
+/// # use tizulgech::{Cid, tree};
+/// let root: Cid = tree::EMPTY_ROOT.parse()?;
+/// let change = tree::Change { key: b"a/b", value: Some(Cid::of(b"record")) };
+/// let proven = tree::prove_change(|_| Ok::<_, Infallible>(Some(tree::EMPTY_NODE)), &root, &[change])?;
+/// assert_eq!(proven.proof.verify(&root, &proven.after, &proven.changes), Ok(()));
+/// # Ok::<(), Box<dyn std::error::Error>>(())
+/// ```
+pub fn prove_change<'k, N: Node, E>(
+    nodes: impl FnMut(&Cid) -> Result<Option<N>, E>,
+    root: &Cid,
+    changes: &[Change<'k>],
+) -> Result<ProvenChange<'k>, EditError<E>> {
+    let told = |asked: &Asked<_>, wanted: &Wanted, missing: &mut [u8; 36]| {
+        let first = asked.given.len() + 8 * asked.places.len() + 36 * changes.len() + 1024;
+        filled(first, |out, size| {
+            let (nodes, keys) = (asked.given.parts(), wanted.keys.parts());
+            sys::tree_prove_change(nodes, &asked.cids, &root.0, keys, &wanted.values, missing, out, size)
+        })
+    };
+    Ok(ProvenChange::read(&over_asked(nodes, root, changes, told)?, changes))
+}
+
+/// What the tree with the root `after` differs by from that with the root `before`. Of each tree just the nodes are asked for that the
+/// other lacks, and both roots: layer by layer, each once, and each is hashed unless it is [`Known`].
+///
+/// ```
+/// # use std::{collections::HashMap, convert::Infallible};
+/// # use tizulgech::{Cid, tree};
+/// # let before: Cid = tree::EMPTY_ROOT.parse()?;
+/// # let edit = tree::put(|_| Ok::<_, Infallible>(Some(tree::EMPTY_NODE)), &before, "a/b", &Cid::of(b""))?;
+/// # let mut nodes: HashMap<Cid, Vec<u8>> = edit.add.into_iter().collect();
+/// # nodes.insert(before, tree::EMPTY_NODE.to_vec());
+/// # let after = edit.root;
+/// let found = tree::difference(|cid| Ok::<_, Infallible>(nodes.get(cid)), &before, &after)?;
+/// assert_eq!(found.changes, [tree::Differing { key: b"a/b".to_vec(), before: None, after: Some(Cid::of(b"")) }]);
+/// # Ok::<(), Box<dyn std::error::Error>>(())
+/// ```
+pub fn difference<N: Node, E>(
+    nodes: impl FnMut(&Cid) -> Result<Option<N>, E>,
+    before: &Cid,
+    after: &Cid,
+) -> Result<Difference, EditError<E>> {
+    let (mut asked, mut bad) = (Asked::new(nodes), [0; 36]);
+    loop {
+        let missing = filled(36 * (asked.places.len() + 16), |out, size| {
+            sys::missing(asked.given.parts(), &asked.cids, &before.0, &after.0, &mut bad, out, size)
+        });
+        let missing = missing.map_err(|number| EditError::of(number, Cid(bad)))?;
+        if missing.is_empty() {
+            break;
+        }
+        for cid in missing.chunks_exact(36).map(|cid| Cid(cid.try_into().expect("36 bytes"))) {
+            let node = asked.node(&cid)?;
+            if !N::IS_KNOWN && Cid::of(node) != cid {
+                return Err(EditError::BadNode(cid));
+            }
+        }
+    }
+    let bytes = filled(1024 + 2 * asked.given.len(), |out, size| {
+        sys::difference(asked.given.parts(), &asked.cids, &before.0, &after.0, &mut bad, out, size)
+    });
+    let bytes = bytes.map_err(|number| EditError::of(number, Cid(bad)))?;
+    let (mut reader, mut add) = (Reader(&bytes), Vec::new());
+    let count = reader.number();
+    let mut next = || Differing { key: reader.part().to_vec(), before: reader.value(), after: reader.value() };
+    let changes = (0..count).map(|_| next()).collect();
+    let gone = reader.number();
+    let drop = (0..gone).map(|_| reader.cid()).collect();
+    while !reader.is_empty() {
+        add.push((reader.cid(), reader.part().to_vec()));
+    }
+    Ok(Difference { changes, add, drop })
+}
+
+/// The answer of a call over the nodes that changes need, for which a host is asked layer by layer.
+fn over_asked<N: Node, E, F: FnMut(&Cid) -> Result<Option<N>, E>>(
+    nodes: F,
+    root: &Cid,
+    changes: &[Change<'_>],
+    told: impl Fn(&Asked<F>, &Wanted, &mut [u8; 36]) -> Result<Vec<u8>, u8>,
+) -> Result<Vec<u8>, EditError<E>> {
     let wanted = Wanted::of(changes);
     if !changes.iter().all(|change| sys::is_key(change.key)) || !changes.is_sorted_by(|one, other| one.key < other.key) {
         return Err(EditError::BadKeys);
@@ -369,14 +580,8 @@ pub fn apply<N: Node, E>(
     walked?;
     loop {
         let mut missing = [0; 36];
-        // Room for the answer of nearly any edit: where it is too small all is made once more.
-        let first = asked.given.len() + 128 * asked.places.len() + wanted.keys.len() + 256 * changes.len() + 1024;
-        let answer = filled(first, |out, size| {
-            let (nodes, keys) = (asked.given.parts(), wanted.keys.parts());
-            sys::tree_apply(nodes, &asked.cids, &root.0, keys, &wanted.values, &mut missing, out, size)
-        });
-        match answer {
-            Ok(bytes) => return Ok(read(&bytes, changes.len())),
+        match told(&asked, &wanted, &mut missing) {
+            Ok(bytes) => return Ok(bytes),
             // Nodes that are no tree's may need another one.
             Err(2) => {
                 let cid = Cid(missing);

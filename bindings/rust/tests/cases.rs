@@ -15,21 +15,35 @@ struct Refused {
     number: u8,
     place: Option<usize>,
     cid: Option<Cid>,
+    path: Option<String>,
 }
 
 macro_rules! refused {
     ($($fault:ty),*) => {
         $(impl From<$fault> for Refused {
             fn from(it: $fault) -> Refused {
-                Refused { name: it.name(), number: it.number(), place: None, cid: None }
+                Refused { name: it.name(), number: it.number(), place: None, cid: None, path: None }
             }
         })*
     };
 }
 refused!(RecordFault, CidFault, StampFault, TreeFault, ProofFault, NodeFault, BatchFault, OpenError);
+refused!(JsonFault, RecordJsonFault, LinkFault, CheckFault);
 
 impl From<BatchError> for Refused {
     fn from(it: BatchError) -> Refused {
+        Refused { place: Some(it.place), ..it.fault.into() }
+    }
+}
+
+impl From<JsonError> for Refused {
+    fn from(it: JsonError) -> Refused {
+        Refused { path: Some(it.path), ..it.fault.into() }
+    }
+}
+
+impl From<CheckError> for Refused {
+    fn from(it: CheckError) -> Refused {
         Refused { place: Some(it.place), ..it.fault.into() }
     }
 }
@@ -38,27 +52,27 @@ impl From<ChangeFault> for Refused {
     fn from(it: ChangeFault) -> Refused {
         let place = if let ChangeFault::OtherValue(place) = it { Some(place) } else { None };
         let cid = if let ChangeFault::Missing(cid) | ChangeFault::BadNode(cid) = it { Some(cid) } else { None };
-        Refused { name: it.name(), number: it.number(), place, cid }
+        Refused { name: it.name(), number: it.number(), place, cid, path: None }
     }
 }
 
 impl From<ProvingFault> for Refused {
     fn from(it: ProvingFault) -> Refused {
         let place = if let ProvingFault::OtherValue(place) = it { Some(place) } else { None };
-        Refused { name: it.name(), number: it.number(), place, cid: None }
+        Refused { name: it.name(), number: it.number(), place, cid: None, path: None }
     }
 }
 
 impl From<tree::EditError<()>> for Refused {
     fn from(it: tree::EditError<()>) -> Refused {
         let cid = if let tree::EditError::Missing(cid) | tree::EditError::BadNode(cid) = it { Some(cid) } else { None };
-        Refused { name: it.name().unwrap(), number: it.number().unwrap(), place: None, cid }
+        Refused { name: it.name().unwrap(), number: it.number().unwrap(), place: None, cid, path: None }
     }
 }
 
 impl From<NoMemory> for Refused {
     fn from(_: NoMemory) -> Refused {
-        Refused { name: "NO_MEMORY", number: 255, place: None, cid: None }
+        Refused { name: "NO_MEMORY", number: 255, place: None, cid: None, path: None }
     }
 }
 
@@ -179,6 +193,28 @@ fn edit(it: &Json) -> Result<Json, Refused> {
     ]))
 }
 
+fn entries(it: &Json) -> Result<Json, Refused> {
+    let found = tree::entries(data(&it["node"]))?;
+    let key = |key: &[u8]| text(std::str::from_utf8(key).unwrap());
+    let pairs = found.pairs.iter().map(|it| list([key(&it.key), text(it.value), maybe(it.link)]));
+    Ok(map([("left", maybe(found.left)), ("pairs", list(pairs))]))
+}
+
+fn proven(it: &Json) -> Result<Json, Refused> {
+    let (changes, root) = (wanted(&it["changes"]), cid(&it["root"]));
+    let key = |key| text(std::str::from_utf8(key).unwrap());
+    let proven = tree::prove_change(host(&it["nodes"]), &root, &changes)?;
+    let told = proven.changes.iter().map(|it| list([key(it.key), maybe(it.before), maybe(it.after)]));
+    let shown = proven.proof.verify(&root, &proven.after, &proven.changes).is_ok();
+    Ok(map([("after", text(proven.after)), ("changes", list(told)), ("shown", Json::Bool(shown))]))
+}
+
+fn opened(it: &Json) -> Result<Json, Refused> {
+    let repository = Repository::open_car(it["limit"].number() as usize, &data(&it["file"]))?;
+    let all = pairs(repository.pairs(""));
+    Ok(map([("root", text(repository.root())), ("number", number(repository.number())), ("pairs", all)]))
+}
+
 fn call(it: &Json) -> Result<Json, Refused> {
     let done = |_| Json::Null;
     Ok(match it["call"].text() {
@@ -225,6 +261,32 @@ fn call(it: &Json) -> Result<Json, Refused> {
             map([("path", list(path.nodes.iter().map(hex))), ("value", maybe(value))])
         }
         "tree_apply" => edit(it)?,
+        "node_entries" => entries(it)?,
+        "tree_list" => {
+            let most = it["most"].number() as usize;
+            pairs(tree::list(host(&it["nodes"]), &cid(&it["root"]), it["start"].text(), most)?)
+        }
+        "tree_prove_change" => proven(it)?,
+        "tree_difference" => {
+            let found = tree::difference(host(&it["nodes"]), &cid(&it["before"]), &cid(&it["after"]))?;
+            let key = |key: &[u8]| text(std::str::from_utf8(key).unwrap());
+            let changes = found.changes.iter().map(|it| list([key(&it.key), maybe(it.before), maybe(it.after)]));
+            map([
+                ("changes", list(changes)),
+                ("add", sorted(found.add.iter().map(|(cid, node)| list([text(cid), hex(node)])).collect())),
+                ("drop", sorted(found.drop.iter().map(text).collect())),
+            ])
+        }
+        "record_json" => text(record_json(&data(&it["record"]))?),
+        "json_record" => hex(json_record(it["text"].text())?),
+        "link_text" => text(link_text(&data(&it["bytes"]))?),
+        "link_from_text" => hex(link_from_text(it["text"].text())?),
+        "check_car" => {
+            let found = check_car(&data(&it["file"]))?;
+            let (commit, root, count) = (text(found.commit), text(found.root), number(found.count));
+            map([("commit", commit), ("root", root), ("count", count), ("did", text(found.did)), ("rev", text(found.rev))])
+        }
+        "open_car" => opened(it)?,
         other => panic!("no call {other}"),
     })
 }
@@ -238,6 +300,9 @@ fn see(table: &Json, it: &Json, found: Result<Json, Refused>) {
             assert_eq!(table["faults"][refused.name], number(refused.number));
             if let Some(place) = it.get("place") {
                 assert_eq!(refused.place.map(number).as_ref(), Some(place), "{it:?}");
+            }
+            if let Some(path) = it.get("path") {
+                assert_eq!(refused.path.map(text).as_ref(), Some(path), "{it:?}");
             }
             if it.get("cid").is_some() {
                 assert_eq!(refused.cid, it.get("cid").map(cid), "{it:?}");

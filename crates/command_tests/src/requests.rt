@@ -4,7 +4,7 @@ use crate::running::EMPTY;
 use change_commands::ChangeCommand;
 use cid::Sha256;
 use commands::{Request, run_words};
-use event_commands::EventCommand;
+use event_commands::{EventCommand, Subject};
 use export_commands::{ExportCommand, Values};
 use repository_commands::RepositoryCommand;
 use std::alloc::Global;
@@ -24,6 +24,7 @@ enum Asked {
     ProveChange,
     VerifyChange,
     CommitEvent,
+    SyncEvent,
     CheckEvent,
     Check,
     Records,
@@ -57,7 +58,22 @@ fn request_of<T: Threads + Wait + RandomSource + Sync>(
         Some(Request::OnRepository(RepositoryCommand::Verify { .. })) => Asked::Verify,
         Some(Request::OnChange(ChangeCommand::Prove { .. })) => Asked::ProveChange,
         Some(Request::OnChange(ChangeCommand::Verify { .. })) => Asked::VerifyChange,
-        Some(Request::OnMessages(EventCommand::Commit { .. })) => Asked::CommitEvent,
+        Some(
+            Request::OnMessages(
+                EventCommand::Write {
+                    subject: Subject::Batch,
+                    ..
+                },
+            ),
+        ) => Asked::CommitEvent,
+        Some(
+            Request::OnMessages(
+                EventCommand::Write {
+                    subject: Subject::State,
+                    ..
+                },
+            ),
+        ) => Asked::SyncEvent,
         Some(Request::OnMessages(EventCommand::Check { .. })) => Asked::CheckEvent,
         Some(Request::OnExport(ExportCommand::Check)) => Asked::Check,
         Some(Request::OnExport(ExportCommand::Records(Values::Bytes))) => Asked::Records,
@@ -71,7 +87,7 @@ fn request_of<T: Threads + Wait + RandomSource + Sync>(
     }
 }
 
-static ROWS: [(&[&str], Asked); 22] = [
+static ROWS: [(&[&str], Asked); 23] = [
     (&["msthost", "tree"], Asked::Tree),
     (&["msthost", "car"], Asked::Car),
     (&["msthost", "car", "--sig", "00"], Asked::SignedCar),
@@ -96,6 +112,21 @@ static ROWS: [(&[&str], Asked); 22] = [
             "3jzfcijpj2z2a",
         ],
         Asked::CommitEvent,
+    ),
+    (
+        &[
+            "msthost",
+            "sync-event",
+            "--seq",
+            "1",
+            "--time",
+            "2026-11-30T12:00:00Z",
+            "--sig",
+            "00",
+            "did:web:a.example",
+            "3jzfcijpj2z2a",
+        ],
+        Asked::SyncEvent,
     ),
     (&["msthost", "check-event", EMPTY], Asked::CheckEvent),
     (&["msthost", "check"], Asked::Check),

@@ -70,16 +70,17 @@ named_sub test =
     let prove_change : IsCommandName (codes "prove-change") = (4, codes "prove-change", omega arith, refl, refl) in
     let verify_change : IsCommandName (codes "verify-change") = (5, codes "verify-change", omega arith, refl, refl) in
     let commit_event : IsCommandName (codes "commit-event") = (6, codes "commit-event", omega arith, refl, refl) in
-    let check_event : IsCommandName (codes "check-event") = (7, codes "check-event", omega arith, refl, refl) in
-    let check : IsCommandName (codes "check") = (8, codes "check", omega arith, refl, refl) in
-    let records : IsCommandName (codes "records") = (9, codes "records", omega arith, refl, refl) in
-    let commit : IsCommandName (codes "commit") = (10, codes "commit", omega arith, refl, refl) in
-    let changes : IsCommandName (codes "changes") = (11, codes "changes", omega arith, refl, refl) in
-    let run : IsCommandName (codes "run") = (12, codes "run", omega arith, refl, refl) in
-    let explain : IsCommandName (codes "explain") = (13, codes "explain", omega arith, refl, refl) in
-    let help : IsCommandName (codes "help") = (14, codes "help", omega arith, refl, refl) in
+    let sync_event : IsCommandName (codes "sync-event") = (7, codes "sync-event", omega arith, refl, refl) in
+    let check_event : IsCommandName (codes "check-event") = (8, codes "check-event", omega arith, refl, refl) in
+    let check : IsCommandName (codes "check") = (9, codes "check", omega arith, refl, refl) in
+    let records : IsCommandName (codes "records") = (10, codes "records", omega arith, refl, refl) in
+    let commit : IsCommandName (codes "commit") = (11, codes "commit", omega arith, refl, refl) in
+    let changes : IsCommandName (codes "changes") = (12, codes "changes", omega arith, refl, refl) in
+    let run : IsCommandName (codes "run") = (13, codes "run", omega arith, refl, refl) in
+    let explain : IsCommandName (codes "explain") = (14, codes "explain", omega arith, refl, refl) in
+    let help : IsCommandName (codes "help") = (15, codes "help", omega arith, refl, refl) in
     found_in HasName test (built msthost).subs
-    (tree, (car, (prove, (verify, (prove_change, (verify_change, (commit_event, (check_event, (check, (records, (commit, (changes, (run, (explain, (help, tt)))))))))))))))
+    (tree, (car, (prove, (verify, (prove_change, (verify_change, (commit_event, (sync_event, (check_event, (check, (records, (commit, (changes, (run, (explain, (help, tt))))))))))))))))
 
 entered_name : (words : List Text) (o : Option Shape) → IfSome o HasName → IfSome (option_map (λ s. rows_at s words) o) (λ c. IsCommandName c.0)
 unfolding HasName

@@ -18,7 +18,7 @@ use Rattle.explain_command.specs.Words.{HasNameOf, explain_shape}
 use Rattle.tree_command.specs.Words.{AreKeysOf, HasNumberOf, tree_shape}
 use Rattle.repository_commands.specs.Words.{IsOfWords, car_shape, prove_shape, verify_shape}
 use Rattle.change_commands.specs.Words.{prove_change_shape, verify_change_shape, IsOfWords as IsChangeOfWords}
-use Rattle.event_commands.specs.Words.{check_event_shape, commit_event_shape, IsOfWords as IsEventOfWords}
+use Rattle.event_commands.specs.Words.{check_event_shape, commit_event_shape, sync_event_shape, IsOfWords as IsEventOfWords}
 use Rattle.export_commands.specs.Words.{check_shape, records_shape, commit_shape, IsOfWords as IsExportOfWords}
 use Rattle.difference_commands.specs.Words.{changes_shape, IsOfWords as AreChangesOfWords}
 use Rattle.run_command.specs.Words.{AreSettingsOf, did_of_words, run_shape}
@@ -37,14 +37,15 @@ program_shape = record (new_shape (codes "msthost")) {
 abbrev pub help_shape : Shape
 help_shape = new_shape (codes "help")
 
--- the program with its fifteen commands, of which those that read something may be given a file
+-- the program with its sixteen commands, of which those that read something may be given a file
 unfoldable pub msthost : App
 msthost = record {
   top = program_shape;
   subs = with_file tree_shape ∷ with_file car_shape ∷ with_file prove_shape ∷ with_file verify_shape
       ∷ with_file prove_change_shape ∷ with_file verify_change_shape ∷ with_file commit_event_shape
-      ∷ with_file check_event_shape ∷ with_file check_shape ∷ with_file records_shape
-      ∷ with_file commit_shape ∷ changes_shape ∷ with_file run_shape ∷ explain_shape ∷ help_shape ∷ [];
+      ∷ with_file sync_event_shape ∷ with_file check_event_shape ∷ with_file check_shape
+      ∷ with_file records_shape ∷ with_file commit_shape ∷ changes_shape ∷ with_file run_shape
+      ∷ explain_shape ∷ help_shape ∷ [];
 }
 
 -- the request is the one of this name, with what the command's own words say
@@ -82,9 +83,9 @@ name_of = option_map (λ name. name.now)
 -- one of the commands has this name
 abbrev pub IsCommandName : Text → Type 0
 IsCommandName name = Any (λ x. x ≡ name) (codes "tree" ∷ codes "car" ∷ codes "prove" ∷ codes "verify"
-    ∷ codes "prove-change" ∷ codes "verify-change" ∷ codes "commit-event" ∷ codes "check-event"
-    ∷ codes "check" ∷ codes "records" ∷ codes "commit" ∷ codes "changes" ∷ codes "run" ∷ codes "explain"
-    ∷ codes "help" ∷ [])
+    ∷ codes "prove-change" ∷ codes "verify-change" ∷ codes "commit-event" ∷ codes "sync-event"
+    ∷ codes "check-event" ∷ codes "check" ∷ codes "records" ∷ codes "commit" ∷ codes "changes"
+    ∷ codes "run" ∷ codes "explain" ∷ codes "help" ∷ [])
 
 -- an answer of this kind is help or the version
 abbrev pub is_shown : ErrorKind → Bool

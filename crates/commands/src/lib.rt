@@ -10,7 +10,7 @@
 //!
 //! Each command has a crate of its own, for callers that have no command line: `tree_command` lists trees,
 //! `repository_commands` has `car`, `prove` and `verify`, `change_commands` has `prove-change` and `verify-change`,
-//! `event_commands` has `commit-event` and `check-event`, `export_commands` has `check`, `records` and `commit`,
+//! `event_commands` has `commit-event`, `sync-event` and `check-event`, `export_commands` has `check`, `records` and `commit`,
 //! `difference_commands` has `changes`, and `run_command` does scripts. `command_line` knows them all, and `run` does the one
 //! that is asked for.
 #![tactic(auto)]

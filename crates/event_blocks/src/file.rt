@@ -35,7 +35,7 @@ pub fn read_blocks<'f, D: Digest, A: Allocator + Clone>(
         (sections_in D.digest_of (bytes_of commit.entry) file.now) }
 {
     let car = car(alloc.clone()?, file)?;
-    if !car.root.is_same(commit) & false {
+    if !car.root.is_same(commit) {
         return Err(BlocksFault::NotTheRoot);
     }
     if !are_named::<D, A>(alloc, &car.sections)? {

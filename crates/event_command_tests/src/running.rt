@@ -1,6 +1,6 @@
 //! Running a command over memory.
 use cid::Sha256;
-use event_commands::{EventCommand, EventWords, run};
+use event_commands::{EventCommand, EventWords, Subject, run};
 use record_forms::Form;
 use std::alloc::Global;
 
@@ -34,17 +34,64 @@ pub(crate) fn ends(
     ended == status && text.as_slice() == out && told.as_slice() == err.as_bytes()
 }
 
-/// Whether a batch isn't told, and this is said of it.
-pub(crate) fn is_untold(alloc: Global, words: EventWords<'_>, lines: &[u8], err: &str) -> bool {
+/// The words of its message of the state.
+pub(crate) fn words_of_state() -> EventWords<'static> {
+    EventWords {
+        seq: 2,
+        time: "2026-11-30T12:00:01Z",
+        ..words()
+    }
+}
+
+/// Whether the message of a batch or of a state is this one.
+pub(crate) fn is_written(
+    alloc: Global,
+    subject: Subject,
+    words: EventWords<'_>,
+    lines: &[u8],
+    message: &[u8],
+) -> bool {
     let form = Form::Hex;
     ends(
         alloc,
-        EventCommand::Commit { words, form },
+        EventCommand::Write {
+            subject,
+            words,
+            form,
+        },
+        lines,
+        0,
+        message,
+        "",
+    )
+}
+
+/// Whether there is none, and this is said of it.
+pub(crate) fn has_none(
+    alloc: Global,
+    subject: Subject,
+    words: EventWords<'_>,
+    lines: &[u8],
+    err: &str,
+) -> bool {
+    let form = Form::Hex;
+    ends(
+        alloc,
+        EventCommand::Write {
+            subject,
+            words,
+            form,
+        },
         lines,
         1,
         b"",
         err,
     )
+}
+
+/// Whether a batch isn't told, and this is said of it.
+pub(crate) fn is_untold(alloc: Global, words: EventWords<'_>, lines: &[u8], err: &str) -> bool {
+    has_none(alloc, Subject::Batch, words, lines, err)
 }
 
 /// Whether messages aren't true from a root on, and this is said of them.

@@ -1,7 +1,7 @@
 //! Messages that are written.
-use crate::message::MESSAGE;
-use crate::running::{ends, is_untold, words};
-use event_commands::{EventCommand, EventWords};
+use crate::message::{MESSAGE, SYNC};
+use crate::running::{ends, has_none, is_untold, is_written, words, words_of_state};
+use event_commands::{EventCommand, EventWords, Subject};
 use record_forms::Form;
 use std::test::Fail;
 
@@ -9,17 +9,62 @@ use std::test::Fail;
 fn a_message_is_that_of_another_program(rt: HostRuntime) -> Result<(), Fail> {
     let alloc = rt.alloc();
     let message = hex::decode(alloc, MESSAGE)?;
-    let hex = EventCommand::Commit {
-        words: words(),
-        form: Form::Hex,
-    };
-    assert!(rt; ends(alloc, hex, b"\nput a/b a0", 0, &message, ""));
-    let json = EventCommand::Commit {
+    assert!(rt; is_written(alloc, Subject::Batch, words(), b"\nput a/b a0", &message));
+    let json = EventCommand::Write {
+        subject: Subject::Batch,
         words: words(),
         form: Form::Json,
     };
     assert!(rt; ends(alloc, json, b"\ncreate a/b {}\n", 0, &message, ""));
     Ok(())
+}
+
+#[test]
+fn a_message_of_a_state_is_that_of_another_program(rt: HostRuntime) -> Result<(), Fail> {
+    let alloc = rt.alloc();
+    let message = hex::decode(alloc, SYNC)?;
+    let beside = words_of_state();
+    assert!(rt; is_written(alloc, Subject::State, beside, b"a/b a0", &message));
+    assert!(rt; is_written(alloc, Subject::State, beside, b"\nput a/b a0\n", &message));
+    assert!(rt;
+        is_written(
+            alloc,
+            Subject::State,
+            beside,
+            b"a/c a0\n\nput a/b a0\ndelete a/c\n",
+            &message
+        )
+    );
+    assert!(rt; has_none(alloc, Subject::State, beside, b"", "msthost: NoBatch\n"));
+    assert!(rt;
+        has_none(
+            alloc,
+            Subject::State,
+            beside,
+            b"a/b",
+            "msthost: line 1: BadLine\n"
+        )
+    );
+    Ok(())
+}
+
+#[test]
+fn a_batch_comes_behind_the_records(rt: HostRuntime) {
+    let alloc = rt.alloc();
+    let first = EventWords {
+        rev: "2222222222222",
+        ..words()
+    };
+    let lines = b"a/b a0\n\nput a/c a0".as_slice();
+    assert!(rt; is_untold(alloc, first, lines, "msthost: RevOrder\n"));
+    assert!(rt; has_none(alloc, Subject::State, first, lines, "msthost: RevOrder\n"));
+    assert!(rt; is_untold(alloc, first, b"a/b a0\n\n", "msthost: NoBatch\n"));
+    let noon = EventWords {
+        time: "noon",
+        ..first
+    };
+    assert!(rt; is_untold(alloc, noon, b"\nput a/b a0", "msthost: BadTime\n"));
+    assert!(rt; has_none(alloc, Subject::State, noon, b"a/b a0", "msthost: BadTime\n"));
 }
 
 #[test]

@@ -9,7 +9,8 @@ use Rattle.repository_commands.proofs.Making.{fails_then, gives_then, passed}
 use Rattle.change_commands.specs.Stories.{Story, story_in}
 use Rattle.event_commands.specs.Faults.{Fault, OfText, message_fault_of}
 use Rattle.event_commands.specs.Outcomes.{IsMade, Texts}
-use Rattle.event_commands.specs.Texts.{Words, check_event_text, commit_event_text, event_of_story, lines_of_stream, of_text, root_of_word, signature_of}
+use Rattle.event_commands.specs.Texts.{Words, check_event_text, event_of_story, event_text, lines_of_stream, of_text, root_of_word, signature_of}
+use Rattle.event_commands.specs.declared.command.Subject.{Subject}
 use Rattle.event_commands.specs.declared.fault.MessageFault.{MessageFault}
 
 module _ {X D : Type 0} (view : X → List ℕ) (text : Texts) (input : Option (List ℕ)) (r : Result X (MessageFault D)) where
@@ -34,16 +35,17 @@ unfolding check_event_text
 rooted digest form word root stream xs e is =
     gives_then (root_of_word word) root (λ r. lines_of_stream digest form r xs) e ∙ ap (lines_of_stream digest form root) (sym is)
 
-pub unsigned : (digest : List ℕ → List ℕ) (form : Form) (w : Words) (o : Option Fault) → Fails o (signature_of w) → (xs : List ℕ)
-    → Fails o (commit_event_text digest form w xs)
-unfolding commit_event_text
-unsigned digest form w o e xs = fails_then o (signature_of w) (λ sig. event_of_story digest w sig (story_in form xs)) e
+module _ (digest : List ℕ → List ℕ) (subject : Subject) (form : Form) (w : Words) where
+  pub unsigned : (o : Option Fault) → Fails o (signature_of w) → (xs : List ℕ) → Fails o (event_text digest subject form w xs)
+  unfolding event_text
+  unsigned o e xs = fails_then o (signature_of w) (λ sig. event_of_story digest subject w sig (story_in form xs)) e
 
-pub signed : (digest : List ℕ → List ℕ) (form : Form) (w : Words) (sig : List ℕ) (story : Story) (xs : List ℕ) → signature_of w ≡ Ok sig
-    → story ≡ story_in form xs → commit_event_text digest form w xs ≡ event_of_story digest w sig story
-unfolding commit_event_text
-signed digest form w sig story xs e is =
-    gives_then (signature_of w) sig (λ s. event_of_story digest w s (story_in form xs)) e ∙ ap (event_of_story digest w sig) (sym is)
+  pub signed : (sig : List ℕ) (story : Story) (xs : List ℕ) → signature_of w ≡ Ok sig → story ≡ story_in form xs
+      → event_text digest subject form w xs ≡ event_of_story digest subject w sig story
+  unfolding event_text
+  signed sig story xs e is =
+      gives_then (signature_of w) sig (λ s. event_of_story digest subject w s (story_in form xs)) e
+      ∙ ap (event_of_story digest subject w sig) (sym is)
 
 -- ---- a step that the commands on a repository have too
 

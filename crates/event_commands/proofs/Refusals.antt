@@ -18,7 +18,7 @@ use Rattle.repository_commands.proofs.Repositories.{further_all}
 use Rattle.change_commands.specs.Stories.{Story, story_in}
 use Rattle.event_commands.specs.Faults.{of_read}
 use Rattle.event_commands.specs.Refusals.{is_of_no_line, IsOfNoLine, IsRefusedBy, IsRefusedStory, IsUntold}
-use Rattle.event_commands.specs.Texts.{Words, batch_stamp, first_stamp}
+use Rattle.event_commands.specs.Texts.{Words, own_stamp, stamp_of_records}
 use Rattle.event_commands.specs.declared.fault.MessageFault.{MessageFault}
 use Rattle.event_commands.specs.declared.fault.MessageFault.TheVariants as errors
 
@@ -73,13 +73,13 @@ module _ (digest : List ℕ → List ℕ) (s : State) (stamp : Stamp) (given : G
 
 module _ (digest : List ℕ → List ℕ) (w : Words) (story : Story) where
   -- a line of the records before
-  pub refused_before : {D P : Type 0} (stamp : Stamp) → stamp ≡ first_stamp w → (follows : P → WasFull digest) (e : MessageFault D)
+  pub refused_before : {D P : Type 0} (stamp : Stamp) → stamp ≡ stamp_of_records w story.batch.writes → (follows : P → WasFull digest) (e : MessageFault D)
       → IsRefusedBy digest no_writes stamp story.before P e → IsRefusedStory digest w story e
   refused_before stamp es follows e is =
       inl (subst (λ x. IsRefusedBy digest no_writes x story.before (WasFull digest) e) es (by_further digest no_writes stamp story.before follows e is))
 
   -- of the batch
-  pub refused_after : {X D : Type 0} (s : State) (first stamp : Stamp) (r : Result X (MessageFault D)) → first ≡ first_stamp w → stamp ≡ batch_stamp w
+  pub refused_after : {X D : Type 0} (s : State) (first stamp : Stamp) (r : Result X (MessageFault D)) → first ≡ stamp_of_records w story.batch.writes → stamp ≡ own_stamp w
       → state_of_given no_writes first story.before ≡ Ok s → IfErr r (IsRefusedBy digest s stamp story.batch (WasFull digest)) → IfErr r (IsRefusedStory digest w story)
   refused_after s first stamp (Ok x) ef es e is = tt
   refused_after s first stamp (Err f) ef es e is = inr (
@@ -89,7 +89,11 @@ module _ (digest : List ℕ → List ℕ) (w : Words) (story : Story) where
   )
 
   pub never_refused : {D : Type 0} (e : MessageFault D) → IsOfNoLine e → IsRefusedStory digest w story e
-  never_refused e is = inl (lineless digest no_writes (first_stamp w) story.before (WasFull digest) e is)
+  never_refused e is = inl (lineless digest no_writes (stamp_of_records w story.batch.writes) story.before (WasFull digest) e is)
+
+  pub all_never : {X D : Type 0} (r : Result X (MessageFault D)) (f : MessageFault D) → IsErrAnd r (λ e. e ≡ f) → IsOfNoLine f
+      → IfErr r (IsRefusedStory digest w story)
+  all_never r f e is = passed (λ q. IfErr q (IsRefusedStory digest w story)) r f e (never_refused f is)
 
 module _ {X D : Type 0} (digest : List ℕ → List ℕ) (form : Form) (w : Words) (input : Option (List ℕ)) (r : Result X (MessageFault D)) where
   -- whatever the lines are

@@ -1,4 +1,5 @@
--- That a line which `commit-event` refuses is refused for a reason, as of `prove-change`, and that `check-event` refuses none.
+-- That a line which `commit-event` or `sync-event` refuses is refused for a reason, as of `prove-change`, and that `check-event`
+-- refuses none.
 use Rattle.std.specs.Prelude.{◌≡◌, ◌⊎◌, ⊤, ℕ, List, Bool, true, false, Ok}
 use Rattle.spec.specs.Stamps.{Stamp}
 use Rattle.spec.specs.States.{State}
@@ -10,7 +11,7 @@ use Rattle.repository_commands.specs.Texts.{no_writes, state_of_given}
 use Rattle.repository_commands.specs.declared.fault.TextFault.{TextFault}
 use Rattle.repository_commands.specs.declared.fault.TextFault.TheVariants as of_text
 use Rattle.change_commands.specs.Stories.{Story, story_in}
-use Rattle.event_commands.specs.Texts.{Words, batch_stamp, first_stamp}
+use Rattle.event_commands.specs.Texts.{Words, own_stamp, stamp_of_records}
 use Rattle.event_commands.specs.declared.fault.MessageFault.{MessageFault}
 use Rattle.event_commands.specs.declared.fault.MessageFault.TheVariants as errors
 
@@ -23,9 +24,9 @@ IsRefusedBy digest s stamp given when_full (errors.Message n f) = ⊤
 -- in the one batch of a story or in the other
 abbrev pub IsRefusedStory : {D : Type 0} → (List ℕ → List ℕ) → Words → Story → MessageFault D → Type 0
 IsRefusedStory digest w story e =
-    IsRefusedBy digest no_writes (first_stamp w) story.before (WasFull digest) e
-    ⊎ ((s : State) × (state_of_given no_writes (first_stamp w) story.before ≡ Ok s)
-    × IsRefusedBy digest s (batch_stamp w) story.batch (WasFull digest) e)
+    IsRefusedBy digest no_writes (stamp_of_records w story.batch.writes) story.before (WasFull digest) e
+    ⊎ ((s : State) × (state_of_given no_writes (stamp_of_records w story.batch.writes) story.before ≡ Ok s)
+    × IsRefusedBy digest s (own_stamp w) story.batch (WasFull digest) e)
 
 -- of the lines of an input
 abbrev pub IsUntold : {D : Type 0} → (List ℕ → List ℕ) → Form → Words → List ℕ → MessageFault D → Type 0

@@ -1,7 +1,9 @@
 -- What the commands on messages write for an input, or why nothing (the forms of the texts are a choice of this project).
-use Rattle.std.specs.Prelude.{ℕ, zero, suc, ◌+◌, ◌==◌, Bool, not, List, [], ◌∷◌, ◌++◌, codes, decimal, length, unwrap_or}
+use Rattle.std.specs.Prelude.{ℕ, zero, suc, ◌+◌, ◌==◌, Bool, not, ◌&&◌, cond, List, [], ◌∷◌, ◌++◌, codes, decimal, length}
+use Rattle.std.specs.Prelude.{unwrap_or}
 use Rattle.std.specs.Prelude.{Option, Some, None, Result, Ok, Err}
 use Rattle.std.specs.List.{flat_map}
+use Rattle.std.specs.Str.{bytes_eq}
 use Rattle.spec.specs.Reading.{◌>>=◌, ensure}
 use Rattle.spec.specs.Cid.{text, cid_of_text}
 use Rattle.spec.specs.CarReading.{Section, block_with}
@@ -11,9 +13,11 @@ use Rattle.spec.specs.Writes.{Write}
 use Rattle.spec.specs.States.{State, state_root}
 use Rattle.change_laws.specs.Told.{KeyChange}
 use Rattle.event_laws.specs.Ops.{action_of}
+use Rattle.event_laws.specs.Reading.{RevOrder}
 use Rattle.event_laws.specs.Verdict as verdict
 use Rattle.event_writing_laws.specs.Telling as telling
 use Rattle.event_writing_laws.specs.Messages.{batch_message}
+use Rattle.event_writing_laws.specs.Syncs.{SyncTold, sync_message}
 use Rattle.event_frames.specs.Frames.{cut}
 use Rattle.record_forms.specs.Records.{json_or_hex}
 use Rattle.record_forms.specs.declared.form.Form.{Form}
@@ -25,6 +29,8 @@ use Rattle.repository_commands.specs.Texts.{no_writes, or_bad_root, signing_chec
 use Rattle.change_commands.specs.Stories.{Story, story_in}
 use Rattle.change_commands.specs.Texts.{changes_of_batch}
 use Rattle.event_commands.specs.Faults.{Fault, OfBatch, OfMessage, OfText}
+use Rattle.event_commands.specs.declared.command.Subject.{Subject}
+use Rattle.event_commands.specs.declared.command.Subject.TheVariants as subjects
 
 abbrev pub of_text : {A : Type 0} → Result A texts.Fault → Result A Fault
 of_text (Ok x) = Ok x
@@ -38,9 +44,9 @@ abbrev pub of_message : {A : Type 0} → ℕ → Result A verdict.EventFault →
 of_message n (Ok x) = Ok x
 of_message n (Err f) = Err (OfMessage n f)
 
--- ---- `commit-event`
+-- ---- `commit-event` and `sync-event`
 
--- what a message tells beside the batch, as words
+-- what a message tells beside the batch or the state, as words
 pub record Words : Type 0 where
   pub did : List ℕ
   pub rev : List ℕ
@@ -49,16 +55,13 @@ pub record Words : Type 0 where
   pub time : List ℕ
   pub sig : List ℕ
 
--- the stamps of the records before and of the batch: those are put under the first revision that there is (a choice of this project)
-abbrev pub first_stamp : Words → Stamp
-first_stamp w = stamp_of_words w.did (codes "2222222222222")
-
-abbrev pub batch_stamp : Words → Stamp
-batch_stamp w = stamp_of_words w.did w.rev
+-- the stamp of the words
+abbrev pub own_stamp : Words → Stamp
+own_stamp w = stamp_of_words w.did w.rev
 
 -- the words that are judged before the input is read: the DID, the revision, and the signature, which they give
 abbrev pub signature_of : Words → Result (List ℕ) Fault
-signature_of w = of_text (signing_check (batch_stamp w) w.sig)
+signature_of w = of_text (signing_check (own_stamp w) w.sig)
 
 abbrev pub with_signature : Words → List ℕ → telling.Told
 with_signature w sig = record { seq = w.seq; time = w.time; since = w.since; sig = sig }
@@ -66,24 +69,61 @@ with_signature w sig = record { seq = w.seq; time = w.time; since = w.since; sig
 abbrev pub has_writes : List Write → Bool
 has_writes ws = not (length ws == 0)
 
+-- The records of an input are one batch of a new repository, and the writes behind them one on it. The last one has the stamp of
+-- the words; records before a batch are put under the first revision that there is (a choice of this project).
+abbrev pub first_rev : List ℕ
+first_rev = codes "2222222222222"
+
+abbrev pub rev_of_records : Words → List Write → List ℕ
+rev_of_records w batch = cond (has_writes batch) first_rev w.rev
+
+abbrev pub stamp_of_records : Words → List Write → Stamp
+stamp_of_records w batch = stamp_of_words w.did (rev_of_records w batch)
+
+-- so behind records the revision of a batch has to be another one
+abbrev pub is_behind_records : Words → Story → Bool
+is_behind_records w story = has_writes story.before.writes && has_writes story.batch.writes && bytes_eq w.rev first_rev
+
+abbrev pub order_check : Words → Story → Result (Unit {0}) Fault
+order_check w story = ensure (not (is_behind_records w story)) (OfBatch (telling.OfForm RevOrder))
+
 -- the message for the writes of some lines on a repository, which are one batch under a stamp; where there are no writes, there is
 -- none
-abbrev pub event_on : (List ℕ → List ℕ) → State → Stamp → Given → telling.Told → Result (List ℕ) Fault
-event_on digest s stamp batch told = do
+abbrev pub batch_event_on : (List ℕ → List ℕ) → State → Stamp → Given → telling.Told → Result (List ℕ) Fault
+batch_event_on digest s stamp batch told = do
   t ← of_text (state_of_given s stamp batch)
   some ← ensure (has_writes batch.writes) (OfBatch telling.NoBatch)
   of_batch (batch_message digest 2 t (state_root digest 2 s) (changes_of_batch digest s t batch.writes) told)
 
--- the puts are one batch of a new repository, and the writes one on it
-abbrev pub event_of_story : (List ℕ → List ℕ) → Words → List ℕ → Story → Result (List ℕ) Fault
-event_of_story digest w sig story = do
-  s ← of_text (state_of_given no_writes (first_stamp w) story.before)
-  event_on digest s (batch_stamp w) story.batch (with_signature w sig)
+-- what is told of a state
+abbrev pub beside_state : telling.Told → SyncTold
+beside_state t = record { seq = t.seq; time = t.time; sig = t.sig }
 
-unfoldable pub commit_event_text : (List ℕ → List ℕ) → Form → Words → List ℕ → Result (List ℕ) Fault
-commit_event_text digest form w input = do
+-- the message for the repository that they leave
+abbrev pub state_event_on : (List ℕ → List ℕ) → State → Stamp → Given → telling.Told → Result (List ℕ) Fault
+state_event_on digest s stamp batch told = do
+  t ← of_text (state_of_given s stamp batch)
+  of_batch (sync_message digest 2 t (beside_state told))
+
+abbrev pub event_on : (List ℕ → List ℕ) → Subject → State → Stamp → Given → telling.Told → Result (List ℕ) Fault
+event_on digest subjects.Batch = batch_event_on digest
+event_on digest subjects.State = state_event_on digest
+
+-- for a story, whose batch comes behind its records
+abbrev pub event_in_order : (List ℕ → List ℕ) → Subject → Words → List ℕ → Story → Result (List ℕ) Fault
+event_in_order digest subject w sig story = do
+  s ← of_text (state_of_given no_writes (stamp_of_records w story.batch.writes) story.before)
+  event_on digest subject s (own_stamp w) story.batch (with_signature w sig)
+
+abbrev pub event_of_story : (List ℕ → List ℕ) → Subject → Words → List ℕ → Story → Result (List ℕ) Fault
+event_of_story digest subject w sig story = do
+  ordered ← order_check w story
+  event_in_order digest subject w sig story
+
+unfoldable pub event_text : (List ℕ → List ℕ) → Subject → Form → Words → List ℕ → Result (List ℕ) Fault
+event_text digest subject form w input = do
   sig ← signature_of w
-  event_of_story digest w sig (story_in form input)
+  event_of_story digest subject w sig (story_in form input)
 
 -- ---- `check-event`: what is told of a message that is true
 

@@ -1,7 +1,8 @@
 //! The commands on messages of the event stream, over any reader and writers (AT Protocol, `com.atproto.sync.subscribeRepos`,
-//! `#commit`; the forms of the texts are this repository's own).
+//! `#commit` and `#sync`; the forms of the texts are this repository's own).
 //!
-//! - `commit_event_text` reads the records of a repository and the writes of a batch, and writes the batch's message.
+//! - `event_text` reads the records of a repository and the writes of a batch, and writes the message of the batch, or that of the
+//!   state which it leaves.
 //! - `check_event_text` reads messages one after the other, and writes a line of each, where all are true of the repository that
 //!   had a root before the first of them.
 //!
@@ -10,7 +11,7 @@
 //!
 //! ```text
 //! let mut lines: &[u8] = b"\nput a/b a0";
-//! commit_event_text::<Sha256, _, _>(Global, Form::Hex, &stamp_words, &mut lines, &mut message)?;
+//! event_text::<Sha256, _, _>(Global, Subject::Batch, Form::Hex, &words, &mut lines, &mut message)?;
 //! check_event_text::<Sha256, _, _>(Global, Form::Hex, before, &mut &message[..], &mut out)?; // DID REV ROOT COUNT
 //! ```
 #![tactic(auto)]
@@ -25,8 +26,8 @@ mod words;
 mod writing;
 
 pub use checking::check_event_text;
-pub use command::{EventCommand, EventWords};
+pub use command::{EventCommand, EventWords, Subject};
 pub use fault::MessageFault;
 pub use running::run;
 pub use words::{command_of, with_words};
-pub use writing::commit_event_text;
+pub use writing::event_text;

@@ -7,7 +7,7 @@ ghost use Rattle.event_commands.specs.Outcomes.{HasReason, IsFaulty, IsOutcome, 
 use crate::checking::check_event_text;
 use crate::command::EventCommand;
 use crate::fault::MessageFault;
-use crate::writing::commit_event_text;
+use crate::writing::event_text;
 use cid::Digest;
 use console::{CommandFault, DONE, IO_FAILED, done, tell};
 use std::alloc::Global;
@@ -55,7 +55,11 @@ fn write_text<D: Digest, R: Read, W: Write>(
     ensures unread { HasFaultyWord command.entry → input.new ≡ input.old }
 {
     match command {
-        EventCommand::Commit { words, form } => commit_event_text(alloc, form, &words, input, out),
+        EventCommand::Write {
+            subject,
+            words,
+            form,
+        } => { event_text(alloc, subject, form, &words, input, out) }
         EventCommand::Check { previous, form } => {
             check_event_text(alloc, form, previous.as_bytes(), input, out)
         }

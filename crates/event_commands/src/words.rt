@@ -4,9 +4,9 @@ ghost use Rattle.clap.specs.Words.{app_of, first_of, found_of, new_app, rows_of,
 ghost use Rattle.clap.specs.declared.builder.command.Command.TheViews.{out-Command as fields_of};
 ghost use Rattle.console.specs.FileWords.{with_file as with_file_of};
 ghost use Rattle.record_forms.specs.Options.{json_rule};
-ghost use Rattle.event_commands.specs.Words.{check_event_shape, commit_event_shape, needed_rule, optional_rule, seq_rule, with_commands, IsOfWords, IsOtherName, IsSeqOf};
+ghost use Rattle.event_commands.specs.Words.{alone, check_event_shape, commit_event_shape, name_of, needed_rule, optional_rule, seq_rule, sync_event_shape, told_shape, with_commands, AreEventWords, IsOfWords, IsOtherName, IsSeqOf};
 
-use crate::command::{EventCommand, EventWords};
+use crate::command::{EventCommand, EventWords, Subject};
 use clap::builder::ValueParser;
 use clap::{Arg, ArgAction, ArgMatches, Command};
 use console::{required, with_file, word_or};
@@ -35,6 +35,27 @@ Example:
   $ msthost check-event $empty message.bin
   did:web:a.example 3jzfcijpj2z2a bafyreihkkefvij2yxd6vkifr7342uvsineepfcevg2pduv3e4idaxosycu 1";
 
+const SYNC_EVENT: &str = "Reads a repository and a batch, and writes the message of its state";
+
+const LONG_SYNC_EVENT: &str = "\
+Reads what commit-event reads, and writes the message #sync of the event stream that tells of the repository
+which it leaves, as bytes: that the repository DID has the revision REV, with the commit signed by the signature in hexadecimal.
+Where there is no batch, the records have the revision REV. A server sends it where no message tells of a batch: whoever follows
+the repository knows its root then, and begins again with its export. With --json a record is JSON, as of car --json.
+
+Nothing is signed here. What is signed are the commit's bytes without the signature: commit writes these of the repository after
+the batch, as car --sig writes it.
+
+Exit status: 0 done, 1 a faulty word or line, or a state of which no message tells, 2 a wrong command line, 3 no memory,
+4 reading or writing failed.";
+
+const SYNC_EVENT_EXAMPLE: &str = "\
+Example:
+  $ told='--seq 2 --time 2026-11-30T12:00:01Z --sig 00'
+  $ printf 'a/b a0\\n' | msthost sync-event did:web:a.example 3jzfcijpj2z2a $told > state.bin
+  $ msthost check-event bafyreihkkefvij2yxd6vkifr7342uvsineepfcevg2pduv3e4idaxosycu state.bin
+  msthost: message 1: NotCommit";
+
 const CHECK_EVENT: &str = "Reads messages and writes a line of each, where all are true";
 
 const LONG_CHECK_EVENT: &str = "\
@@ -62,6 +83,7 @@ pub fn with_words<'a>(alloc: Global, program: Command<'a>) -> Result<Command<'a>
     ensures { IfOk result (λ r. app_of r ≡ with_commands (app_of program.entry)) }
 {
     let program = with_commit_event(alloc, program)?;
+    let program = with_sync_event(alloc, program)?;
     with_check_event(alloc, program)
 }
 
@@ -71,6 +93,14 @@ fn with_commit_event<'a>(alloc: Global, program: Command<'a>) -> Result<Command<
         app_of r ≡ with_subcommand (app_of program.entry) (with_file_of commit_event_shape)) }
 {
     program.subcommand(with_file(alloc, commit_event_words(alloc)?)?)
+}
+
+/// Adds `sync-event`.
+fn with_sync_event<'a>(alloc: Global, program: Command<'a>) -> Result<Command<'a>, AllocError>
+    ensures { IfOk result (λ r.
+        app_of r ≡ with_subcommand (app_of program.entry) (with_file_of sync_event_shape)) }
+{
+    program.subcommand(with_file(alloc, sync_event_words(alloc)?)?)
 }
 
 /// Adds `check-event`.
@@ -87,15 +117,16 @@ pub fn command_of<'a>(name: &str, words: &ArgMatches<'a>) -> Option<EventCommand
     ensures none { IfNone result (IsOtherName name.now) }
 {
     if name == "commit-event" {
-        return Some(EventCommand::Commit {
-            words: EventWords {
-                did: word_or("", words, "did"),
-                rev: word_or("", words, "rev"),
-                since: word_in(words, "since"),
-                seq: seq_of(words),
-                time: word_or("", words, "time"),
-                sig: word_or("", words, "sig"),
-            },
+        return Some(EventCommand::Write {
+            subject: Subject::Batch,
+            words: event_words(words, word_in(words, "since")),
+            form: form_of(words),
+        });
+    }
+    if name == "sync-event" {
+        return Some(EventCommand::Write {
+            subject: Subject::State,
+            words: event_words(words, None),
             form: form_of(words),
         });
     }
@@ -106,6 +137,20 @@ pub fn command_of<'a>(name: &str, words: &ArgMatches<'a>) -> Option<EventCommand
         });
     }
     None
+}
+
+/// What the words tell, with this revision before.
+fn event_words<'a>(words: &ArgMatches<'a>, since: Option<&'a str>) -> EventWords<'a>
+    ensures { AreEventWords (rows_of (found_of words.now)) (option_map (λ s. s.now) since.entry) result }
+{
+    EventWords {
+        did: word_or("", words, "did"),
+        rev: word_or("", words, "rev"),
+        since,
+        seq: seq_of(words),
+        time: word_or("", words, "time"),
+        sig: word_or("", words, "sig"),
+    }
 }
 
 /// The text of the word with this id, if there is one.
@@ -128,15 +173,30 @@ fn commit_event_words<'a>(alloc: Global) -> Result<Command<'a>, AllocError>
     ensures shape { IfOk result (λ r. shape_of r ≡ commit_event_shape) }
     ensures local { IfOk result (λ r. (fields_of r).has_globals ≡ false) }
 {
-    bare_commit_event(alloc)
+    told_words(alloc, Subject::Batch)?.arg(optional(
+        alloc,
+        "since",
+        "REV",
+        "The revision of the batch before, which the message tells then",
+    ))
+}
+
+/// The words that `sync-event` takes.
+fn sync_event_words<'a>(alloc: Global) -> Result<Command<'a>, AllocError>
+    ensures shape { IfOk result (λ r. shape_of r ≡ sync_event_shape) }
+    ensures local { IfOk result (λ r. (fields_of r).has_globals ≡ false) }
+{
+    told_words(alloc, Subject::State)
+}
+
+/// The command that writes a message, with the words that both have.
+fn told_words<'a>(alloc: Global, subject: Subject) -> Result<Command<'a>, AllocError>
+    ensures { IfOk result (λ r. (app_of r ≡ alone (told_shape subject))
+        × ((fields_of r).has_globals ≡ false)) }
+{
+    bare_event(alloc, subject)
         .arg(required(alloc, "did", "DID", "Whose repository it is"))?
         .arg(required(alloc, "rev", "REV", "The revision of the batch"))?
-        .arg(optional(
-            alloc,
-            "since",
-            "REV",
-            "The revision of the batch before, which the message tells then",
-        ))?
         .arg(seq_option(alloc))?
         .arg(needed(alloc, "time", "TIME", "When the message is sent"))?
         .arg(needed(
@@ -148,15 +208,21 @@ fn commit_event_words<'a>(alloc: Global) -> Result<Command<'a>, AllocError>
         .arg(json_option(alloc))
 }
 
-/// The command `commit-event` before its words, with what help shows of it.
-fn bare_commit_event<'a>(alloc: Global) -> Command<'a>
-    ensures app { app_of result ≡ new_app (codes "commit-event") }
+/// The command before its words, with what help shows of it.
+fn bare_event<'a>(alloc: Global, subject: Subject) -> Command<'a>
+    ensures app { app_of result ≡ new_app (name_of subject) }
     ensures local { (fields_of result).has_globals ≡ false }
 {
-    Command::new(alloc, "commit-event")
-        .about(COMMIT_EVENT)
-        .long_about(LONG_COMMIT_EVENT)
-        .after_help(COMMIT_EVENT_EXAMPLE)
+    match subject {
+        Subject::Batch => Command::new(alloc, "commit-event")
+            .about(COMMIT_EVENT)
+            .long_about(LONG_COMMIT_EVENT)
+            .after_help(COMMIT_EVENT_EXAMPLE),
+        Subject::State => Command::new(alloc, "sync-event")
+            .about(SYNC_EVENT)
+            .long_about(LONG_SYNC_EVENT)
+            .after_help(SYNC_EVENT_EXAMPLE),
+    }
 }
 
 /// The words that `check-event` takes.

@@ -1,5 +1,5 @@
 -- What is done where a message is followed.
-use Rattle.std.proofs.Common.{◌≡◌, ℕ, Bool, true, List, [], ◌∷◌, map, refl, sym, ap, subst, ◌∙◌, Result, Ok, IfOk, IfErr}
+use Rattle.std.proofs.Common.{◌≡◌, ◌==◌, ℕ, Bool, true, false, List, [], ◌∷◌, length, eqb-true, arith, map, refl, sym, ap, subst, ◌∙◌, Some, None, Result, Ok, IfOk, IfErr}
 use Rattle.std.specs.Str.{bytes_eq}
 use Rattle.std.proofs.lemmas.Slice.Eq.{bytes_eq-Decides}
 use Rattle.spec.specs.Cid.{IsDigest}
@@ -10,6 +10,7 @@ use Rattle.spec.specs.States.{State, IsLawful, records, state_root}
 use Rattle.key_changes.specs.Keyed.{are_changes}
 use Rattle.key_changes.proofs.Ascending.{are-keyed}
 use Rattle.batch_laws.specs.Batch.{changed}
+use Rattle.batch_laws.proofs.Changing.{changed-none}
 use Rattle.change_laws.specs.Told.{KeyChange, undone}
 use Rattle.step_laws.specs.Turned.{done}
 use Rattle.repo.specs.declared.applied.Applied.{Applied}
@@ -58,6 +59,22 @@ refused-of digest bits old made told e lent ss same cs full fuller r h =
     subst (λ (st : Stamp). IfErr r (IsRefused digest bits old st (blocks_of (sections_of ss)) cs full fuller)) e
     (subst (λ (bs : List (List ℕ)). IfErr r (IsRefused digest bits old made bs cs full fuller)) (lent-blocks lent ss same) h)
 
+-- ---- whether there are operations
+
+by-length : (ops : List KeyChange) → (length ops == 0) ≡ true → ops ≡ []
+by-length [] h = refl
+by-length (c ∷ cs) h = let e : length (c ∷ cs) ≡ 0 = eqb-true (length (c ∷ cs)) 0 h in absurd (omega arith)
+
+pub none-told : (ops lent : List KeyChange) (t : Bool) → t ≡ (length lent == 0) → lent ≡ ops → t ≡ true → ops ≡ []
+none-told ops lent t e same h =
+    by-length ops (ap (λ (us : List KeyChange). length us == 0) (sym same) ∙ sym e ∙ h)
+
+pub some-told : (ops lent : List KeyChange) (t : Bool) → t ≡ (length lent == 0) → lent ≡ ops → t ≡ false → ¬ (ops ≡ [])
+some-told ops lent t e same h none =
+    let empty : (length lent == 0) ≡ true = ap (λ (us : List KeyChange). length us == 0) (same ∙ none) in
+    let both : true ≡ false = sym empty ∙ sym e ∙ h in
+    absurd cc
+
 -- ---- where the operations lead
 
 -- a test of two roots that came out true
@@ -92,7 +109,7 @@ module _ (digest : List ℕ → List ℕ) (bits : ℕ) (old : State) (message : 
       → told_message digest (state_root digest bits old) message ≡ Ok x → led_to digest bits old x.event ≡ x.commit.root
       → (cs : List KeyChange) → cs ≡ ordered_ops x.event.ops → are_changes (undone cs) ≡ true → (a : Applied)
       → IsTaken digest bits old new (stamp_in x.event) (blocks_of x.sections) cs a → DifferOnlyBy digest old new cs
-      → IsFollowed digest bits old new message x a
+      → IsFollowed digest bits old new message x (Some a)
   followed-is fits lawful new read leads cs same keyed a taken differ = record {
     read = read;
     root_is = root-led digest bits fits old new lawful (stamp_in x.event) (blocks_of x.sections) cs keyed a taken
@@ -100,3 +117,18 @@ module _ (digest : List ℕ → List ℕ) (bits : ℕ) (old : State) (message : 
     differ = subst (λ (us : List KeyChange). DifferOnlyBy digest old new us) same differ;
     taken = subst (λ (us : List KeyChange). IsTaken digest bits old new (stamp_in x.event) (blocks_of x.sections) us a) same taken;
   }
+
+  -- without operations nothing is done
+  pub followed-empty : told_message digest (state_root digest bits old) message ≡ Ok x → led_to digest bits old x.event ≡ x.commit.root
+      → x.event.ops ≡ [] → IsFollowed digest bits old old message x None
+  followed-empty read leads none =
+      let es = pairs digest (records old) in
+      let led : led_to digest bits old x.event ≡ root_of digest bits (changed [] es) =
+      ap (λ (ops : List KeyChange). root_of digest bits (changed (done (ordered_ops ops)) es)) none in
+      record {
+        read = read;
+        root_is = sym (ap (root_of digest bits) (changed-none es)) ∙ sym led ∙ leads;
+        differ = subst (λ (ops : List KeyChange). DifferOnlyBy digest old old (ordered_ops ops)) (sym none)
+            (record { before = tt; after = tt; others = λ key gone. refl });
+        taken = (none, refl);
+      }

@@ -60,17 +60,17 @@ module _ (digest : List ℕ → List ℕ) (bits : ℕ) (s : State) (message : Li
 
 module _ {D A : Type 0} (digest : List ℕ → List ℕ) (bits : ℕ) (s : State) (message : List ℕ) (full fuller : ℕ) where
   module _ (x : Checked) (read : told_message digest (state_root digest bits s) message ≡ Ok x) where
-    module _ (leads : led_to digest bits s x.event ≡ x.commit.root) where
+    module _ (leads : led_to digest bits s x.event ≡ x.commit.root) (some : ¬ (x.event.ops ≡ [])) where
       -- the batch is refused at one of its writes
       at-place : (i : ℕ) (fault : RepoFault D A)
           → WithBatch digest (blocks_of x.sections) (ordered_ops x.event.ops) (λ batch. (had_in digest s (ordered_ops x.event.ops) ≡ Ok tt)
           × IsRefusal digest bits s (stamp_in x.event) batch full fuller (i, fault))
-          → WithStep digest bits s message (λ y. AtPlace y.event.ops (verdict.place_of (sorted_ops x) i)
+          → WithStep digest bits s message (λ y. (¬ (y.event.ops ≡ [])) × AtPlace y.event.ops (verdict.place_of (sorted_ops x) i)
           (λ j. WithBatch digest (blocks_of y.sections) (ordered_ops y.event.ops)
           (λ batch. (had_in digest s (ordered_ops y.event.ops) ≡ Ok tt)
           × IsRefusal digest bits s (stamp_in y.event) batch full fuller (j, fault))))
       at-place i fault h =
-          record { told = x; read = read; holds = (leads, record { sorted = i; place_is = refl; holds = h }) }
+          record { told = x; read = read; holds = (leads, (some, record { sorted = i; place_is = refl; holds = h })) }
 
       batch-refused : (i : ℕ) (fault : RepoFault D A)
           → IsRefused digest bits s (stamp_in x.event) (blocks_of x.sections) (ordered_ops x.event.ops) full fuller (takings.Refused i fault)
@@ -116,12 +116,12 @@ module _ {D A : Type 0} (digest : List ℕ → List ℕ) (bits : ℕ) (s : State
     has-records takings.NoMemory h = tt
 
     -- by way of what is lent, the refusal of the batch
-    pub refused-lent : (leads : led_to digest bits s x.event ≡ x.commit.root) (cs : List KeyChange) → cs ≡ ordered_ops x.event.ops
+    pub refused-lent : (leads : led_to digest bits s x.event ≡ x.commit.root) → ¬ (x.event.ops ≡ []) → (cs : List KeyChange) → cs ≡ ordered_ops x.event.ops
         → (ds : List Placed) → ds ≡ sorted_ops x → (fault : TakingFault D A) (told : FollowingFault D A) → told ≡ refused_as ds fault
         → IsRefused digest bits s (stamp_in x.event) (blocks_of x.sections) cs full fuller fault
         → IsUnfollowed digest bits s message full fuller told
-    refused-lent leads cs same ds is fault told e h =
-        refused-is leads ds is fault told e
+    refused-lent leads some cs same ds is fault told e h =
+        refused-is leads some ds is fault told e
         (subst (λ (us : List KeyChange). IsRefused digest bits s (stamp_in x.event) (blocks_of x.sections) us full fuller fault) same h)
 
     pub has-records-lent : (cs : List KeyChange) → cs ≡ ordered_ops x.event.ops → (fault : TakingFault D A)

@@ -45,7 +45,7 @@ pub record AtPlace (ops : List KeyChange) (place : ℕ) (P : ℕ → Type 0) : T
   pub holds : P sorted
 
 -- The first of these: the message isn't one of the repository, or not whole; its operations lead to another root than the
--- commit's; a key had another value than is told before; the batch is refused. Or memory is wanted.
+-- commit's; a key had another value than is told before; the batch is refused, where there are operations. Or memory is wanted.
 abbrev pub IsUnfollowed : {D A : Type 0} → (List ℕ → List ℕ) → ℕ → State → List ℕ → ℕ → ℕ → FollowingFault D A → Type 0
 IsUnfollowed digest bits s message full fuller (followings.Message fault) =
     IsMessageFault fault (told_message digest (state_root digest bits s) message)
@@ -54,7 +54,7 @@ IsUnfollowed digest bits s message full fuller followings.OtherRoot =
 IsUnfollowed digest bits s message full fuller (followings.OtherValue place) = WithStep digest bits s message
     (λ x. AtPlace x.event.ops place (λ i. had_in digest s (ordered_ops x.event.ops) ≡ Err (HasOtherValue i)))
 IsUnfollowed digest bits s message full fuller (followings.Refused place fault) = IsNoWant fault
-    (WithStep digest bits s message (λ x. AtPlace x.event.ops place
+    (WithStep digest bits s message (λ x. (¬ (x.event.ops ≡ [])) × AtPlace x.event.ops place
     (λ i. WithBatch digest (blocks_of x.sections) (ordered_ops x.event.ops)
     (λ batch. (had_in digest s (ordered_ops x.event.ops) ≡ Ok tt)
     × IsRefusal digest bits s (stamp_in x.event) batch full fuller (i, fault)))))

@@ -30,7 +30,7 @@ pub enum FollowingFault<D: Digest, A: Allocator = Global> {
     OtherValue(usize),
 
     /// The batch of the operations is refused at that of this place, as `repo::Core::apply` tells it, but for a want of memory. A
-    /// message without operations is `RepoFault::EmptyBatch`, as it changes nothing. A revision that isn't after the last one is
+    /// revision that isn't after the last one is
     /// `RepoFault::RevOrder`, at the operation with the first path.
     #[error("the batch is refused at operation {0}: {1}")]
     Refused(usize, RepoFault<D, A>),

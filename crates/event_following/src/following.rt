@@ -37,8 +37,8 @@ use store::{BlockStore, Hold, StoreFault};
 pub struct Followed<'a, A: Allocator> {
     /// What it says, its commit, and its blocks.
     pub checked: CheckedCommit<'a, A>,
-    /// What its batch left.
-    pub applied: Applied,
+    /// What its batch left; none of a message without operations, which leaves the repository as it was.
+    pub applied: Option<Applied>,
 }
 
 /// Follows a message `#commit` in the repository that it tells of: does its operations, where they lead from the repository's root
@@ -49,7 +49,9 @@ pub struct Followed<'a, A: Allocator> {
 /// named by their CIDs, and else not looked at.
 ///
 /// The batch is a put of its record for each operation that leaves one, and a delete for each other, in the order of their keys,
-/// under the message's DID and revision. Who may sign for the DID, whether the commit is signed, and whether it is this
+/// under the message's DID and revision. A message without operations, as one of a new key of the account, changes nothing here: it
+/// is followed where its commit names the root that there is, and its revision, which this repository doesn't take then, is for the
+/// caller to keep. Who may sign for the DID, whether the commit is signed, and whether it is this
 /// repository's DID, is for the caller to see before.
 ///
 /// `FollowingFault` has why a message isn't followed; `FollowingFault::NoMemory` comes wherever memory was refused.
@@ -95,8 +97,17 @@ pub fn check_and_apply<
     if !leads {
         return Err(FollowingFault::OtherRoot);
     }
+    if checked.event.ops.as_slice().is_empty() {
+        return Ok(Followed {
+            checked,
+            applied: None,
+        });
+    }
     match taken(alloc, store, core, &checked, &changes) {
-        Ok(applied) => Ok(Followed { checked, applied }),
+        Ok(applied) => Ok(Followed {
+            checked,
+            applied: Some(applied),
+        }),
         Err(fault) => Err(refused(fault, &sorted)),
     }
 }

@@ -107,7 +107,8 @@ fn written<G: Digest, const BITS: u8, M: Allocator + Copy>(
     }
 }
 
-/// The root after a message that is followed, or why it isn't; a refusal that doesn't leave all as it was is none.
+/// The root after a message that is followed, or why it isn't; a refusal that doesn't leave all as it was is none, and so is a
+/// message without operations that doesn't.
 pub(crate) fn followed<G: Digest, const BITS: u8, M: Allocator + Copy>(
     alloc: M,
     shard: &mut Shard<G, M>,
@@ -119,13 +120,13 @@ pub(crate) fn followed<G: Digest, const BITS: u8, M: Allocator + Copy>(
     let (root, number) = (mirror.root(), mirror.number());
     let mut store = LentShard::new(shard);
     match check_and_apply(alloc, &mut store, mirror, message) {
-        Ok(followed) => {
-            if followed.applied.previous == root && followed.applied.root == mirror.root() {
-                Some(Ok(mirror.root()))
-            } else {
-                None
+        Ok(followed) => match followed.applied {
+            Some(applied) if applied.previous == root && applied.root == mirror.root() => {
+                Some(Ok(applied.root))
             }
-        }
+            None if mirror.root() == root && mirror.number() == number => Some(Ok(root)),
+            _ => None,
+        },
         Err(fault) => {
             if mirror.root() == root && mirror.number() == number {
                 Some(Err(fault))

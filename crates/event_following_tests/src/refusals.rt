@@ -156,6 +156,65 @@ fn each_refusal(rt: HostRuntime) {
     assert!(rt; right);
 }
 
+/// The messages of a batch that leaves the records that there are, of one that is told without its operation, and of one behind
+/// the first.
+fn empty_messages(
+    alloc: Global,
+    shard: &mut Shard<Sha256>,
+    core: &mut Posts<Global>,
+) -> Option<(Vec<u8>, Vec<u8>)> {
+    let unchanged = message_of(
+        alloc,
+        shard,
+        core,
+        3,
+        &[Step::Put(b"posts/10", B)],
+        &[change(b"posts/10", Some(B), Some(B))],
+    )?;
+    let untold = message_of(alloc, shard, core, 4, &[Step::Update(b"posts/10", A)], &[])?;
+    Some((unchanged, untold))
+}
+
+/// Whether a mirror follows two messages and one without operations, also twice, and not one whose operation is left out.
+fn follows_empty(
+    alloc: Global,
+    shard: &mut Shard<Sha256>,
+    mirror: &mut Posts<Global>,
+    whole: (&[u8], &[u8]),
+    empty: (&[u8], &[u8]),
+) -> bool {
+    end_of(alloc, shard, mirror, whole.0) == End::Followed
+        && end_of(alloc, shard, mirror, empty.0) == End::Message(EventFault::OtherPrevious)
+        && end_of(alloc, shard, mirror, whole.1) == End::Followed
+        && end_of(alloc, shard, mirror, empty.0) == End::Followed
+        && end_of(alloc, shard, mirror, empty.0) == End::Followed
+        && end_of(alloc, shard, mirror, empty.1) == End::OtherRoot
+        && mirror.number() == 4
+}
+
+#[test]
+fn messages_without_operations(rt: HostRuntime) {
+    let alloc = rt.alloc();
+    let (mut own, mut other) = (shard(alloc), shard(alloc));
+    let mut core: Posts<_> = opened(&rt, alloc, &mut own, 100);
+    let mut mirror: Posts<_> = opened(&rt, alloc, &mut other, 100);
+    let whole = messages(alloc, &mut own, &mut core);
+    let empty = empty_messages(alloc, &mut own, &mut core);
+    let right = match (&whole, &empty) {
+        (Some((first, second)), Some((unchanged, untold))) => follows_empty(
+            alloc,
+            &mut other,
+            &mut mirror,
+            (first, second),
+            (unchanged, untold),
+        ),
+        _ => false,
+    };
+    end(&mut own, core);
+    end(&mut other, mirror);
+    assert!(rt; right);
+}
+
 #[test]
 fn a_full_mirror(rt: HostRuntime) {
     let alloc = rt.alloc();

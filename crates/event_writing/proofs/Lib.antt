@@ -8,5 +8,5 @@ pub mod LeftFile
 pub mod SameMessage
 pub mod WholeMessage
 pub mod SyncMessage
-pub mod Signed
+pub mod TakenSigned
 pub mod Refused

@@ -1,10 +1,10 @@
 -- A batch that is accepted signed, with its message, and why it isn't.
-use Rattle.std.specs.Prelude.{◌≡◌, ⊤, ℕ, suc, cond, List, ◌++◌, Result, Ok, Err}
+use Rattle.std.specs.Prelude.{◌≡◌, ⊤, ℕ, suc, ◌+◌, cond, true, List, ◌++◌, length, Result, Ok, Err, is_ok}
 use Rattle.spec.specs.Reading.{Fails}
 use Rattle.spec.specs.Blocks.{IsClashFree, nodes, pairs}
 use Rattle.spec.specs.Stamps.{Stamp}
 use Rattle.spec.specs.Writes.{Write}
-use Rattle.spec.specs.States.{State, after_batch, records, state_root, state_test}
+use Rattle.spec.specs.States.{State, after_batch, records, state_blocks, state_root, state_test}
 use Rattle.event_laws.specs.Events.{Event}
 use Rattle.event_laws.specs.Verdict.{commit_verdict}
 use Rattle.event_format.specs.declared.fault.FormFault.TheVariants as forms
@@ -14,8 +14,9 @@ use Rattle.event_writing_laws.specs.Laws.{blocks_told, checked_batch}
 use Rattle.event_writing_laws.specs.Signed.{batch_changes, signed_event, signed_message}
 use Rattle.batches.specs.declared.fault.RepoFault.{RepoFault}
 use Rattle.batches.specs.declared.fault.RepoFault.TheVariants as faults
+use Rattle.repo.specs.BlockFaults.{IsBlockFault}
 use Rattle.repo.specs.Fulls.{is_full}
-use Rattle.repo.specs.Prepared.{Prepared}
+use Rattle.repo.specs.Prepared.{Prepared, state_after}
 use Rattle.repo.specs.Refusals.{IsRefusal}
 use Rattle.event_writing.specs.Views.{untold_fault_of}
 use Rattle.event_writing.specs.declared.fault.UntoldFault.{UntoldFault}
@@ -34,22 +35,33 @@ IsUntold errors.NoMemory read = ⊥
 IsUntold (errors.Form forms.NoMemory) read = ⊥
 IsUntold fault read = Fails (untold_fault_of fault) read
 
+-- the store is asked last: where it's full, the batch can be told
+abbrev pub IsToldFirst : {D A : Type 0} → RepoFault D A → Result (List ℕ) telling.UntoldFault → Type 0
+IsToldFirst faults.StoreFull read = is_ok read ≡ true
+IsToldFirst fault read = ⊤
+
 -- The root before is another one; where it isn't, the batch is refused, or passes and can't be told; or memory is wanted.
 abbrev pub IsUnsigned : {D A : Type 0} → (List ℕ → List ℕ) → ℕ → State → List ℕ → Stamp → List Write → Told → ℕ → ℕ
     → SigningFault D A → Type 0
 IsUnsigned digest bits s previous stamp batch told full fuller signings.RootMoved = ¬ (previous ≡ state_root digest bits s)
 IsUnsigned digest bits s previous stamp batch told full fuller (signings.Refused place fault) =
     IsNoWant fault ((previous ≡ state_root digest bits s)
-    × IsRefusal digest bits s stamp batch full fuller (place, fault))
+    × IsRefusal digest bits s stamp batch full fuller (place, fault)
+    × IsToldFirst fault (signed_message digest bits s stamp batch told))
 IsUnsigned digest bits s previous stamp batch told full fuller (signings.Untold fault) =
     (previous ≡ state_root digest bits s) × (state_test s stamp batch ≡ Ok tt)
     × IsUntold fault (signed_message digest bits s stamp batch told)
 IsUnsigned digest bits s previous stamp batch told full fuller signings.NoMemory = ⊤
 
--- of a batch that was prepared, before the store is asked
+-- Of a batch that was prepared: two blocks clash, of which one is of the repository after it; it can't be told; or memory is
+-- wanted.
 abbrev pub IsPreparedFault : {D A : Type 0} → (List ℕ → List ℕ) → ℕ → Prepared → Told → SigningFault D A → Type 0
-IsPreparedFault digest bits p told fault =
-    (full : ℕ) → IsUnsigned digest bits p.before (state_root digest bits p.before) p.stamp p.writes told full full fault
+IsPreparedFault digest bits p told signings.RootMoved = ⊥
+IsPreparedFault digest bits p told (signings.Refused place fault) =
+    IsNoWant fault ((place + 1 ≡ length p.writes) × IsBlockFault digest (state_blocks digest bits (state_after p)) 0 0 fault)
+IsPreparedFault digest bits p told (signings.Untold fault) =
+    IsUntold fault (signed_message digest bits p.before p.stamp p.writes told)
+IsPreparedFault digest bits p told signings.NoMemory = ⊤
 
 -- how often a store has answered that it's full: once more just where the batch is refused so
 abbrev pub fulls_after_fault : {D A : Type 0} → ℕ → SigningFault D A → ℕ

@@ -4,6 +4,8 @@
 //! - [`commit_event`] writes the message of a repository's last batch: what each key had and has, the root before, and a CAR
 //!   file of the signed commit, the nodes that undoing the changes reads, and the records that came. It is taken by whoever
 //!   knows the root before (`commit_events::check_commit`).
+//! - [`prepared_event`] writes that of a batch that was prepared, before it is accepted, and [`apply_signed`] accepts a batch that
+//!   was signed over a root, with its message, or refuses it as a whole ([`SigningFault`]): after acceptance nothing is refused.
 //! - [`sync_event`] writes the message of a repository as it is: whose it is, its revision, and the signed commit. A host
 //!   sends it where a batch can't be told.
 //! - [`Told`] and [`SyncTold`] are what a message tells beside the batch or the state. [`UntoldFault`] says why there is none.
@@ -69,6 +71,7 @@ mod file;
 mod left;
 mod message;
 mod ops;
+mod prepared;
 mod signing;
 mod signing_fault;
 mod sync_told;
@@ -77,6 +80,7 @@ mod told;
 mod writing;
 
 pub use fault::UntoldFault;
+pub use prepared::prepared_event;
 pub use signing::{Signed, apply_signed};
 pub use signing_fault::SigningFault;
 pub use sync_told::SyncTold;

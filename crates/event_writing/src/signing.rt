@@ -1,6 +1,6 @@
 //! A signed batch, accepted with its message.
 
-ghost use Rattle.std.specs.Prelude.{◌≡◌, ◌≤◌, ◌+◌, length, Ok, IfErr, IfOk, OnErr, OnOk};
+ghost use Rattle.std.specs.Prelude.{◌≡◌, ◌≤◌, Ok, IfErr, IfOk, OnErr, OnOk};
 ghost use Rattle.spec.specs.States.{IsLawful, after_batch, state_root, state_test};
 ghost use Rattle.store.specs.Stores.{IsStore};
 ghost use Rattle.batches.specs.Values.{stamp_of, writes_of};
@@ -9,17 +9,15 @@ ghost use Rattle.repo.specs.Readings.{has_block};
 ghost use Rattle.repo.specs.Refusals.{IsApplied};
 ghost use Rattle.event_writing_laws.specs.Signed.{signed_message};
 ghost use Rattle.event_writing.specs.Views.{told_of};
-ghost use Rattle.event_writing.specs.Signing.{IsPreparedFault, IsSignedTaken, IsUnsigned, fulls_after_signing, refused_as, unsigned_as};
+ghost use Rattle.event_writing.specs.Signing.{IsSignedTaken, IsUnsigned, fulls_after_signing};
 
-use crate::fault::UntoldFault;
-use crate::signing_fault::SigningFault;
+use crate::prepared::prepared_event;
+use crate::signing_fault::{SigningFault, refused};
 use crate::told::Told;
-use crate::writing::stamped_message;
-use batches::{RepoFault, Stamp, Write};
+use batches::{Stamp, Write};
 use block::Block;
 use cid::{Cid, Digest};
-use event_format::FormFault;
-use kept::LenderWith;
+use fitting::fits_in_memory;
 use repo::{Applied, Core, PreparedBatch};
 use std::alloc::{Allocator, Global};
 use std::sync::Arc;
@@ -96,76 +94,16 @@ pub fn apply_signed<
     if core.root() != previous {
         return Err(SigningFault::RootMoved);
     }
+    if !fits_in_memory::<PreparedBatch<D, B, A>>() {
+        return Err(SigningFault::NoMemory);
+    }
     let prepared = match core.prepare(alloc, stamp, writes) {
         Ok(prepared) => prepared,
         Err((place, fault)) => return Err(refused(place, fault)),
     };
-    let message = match prepared_message::<D, B, A>(alloc, core, &prepared, told) {
-        Ok(message) => message,
-        Err(fault) => return Err(fault),
-    };
+    let message = prepared_event(alloc, core, &prepared, told)?;
     match core.accept(store, prepared) {
         Ok(applied) => Ok(Signed { applied, message }),
         Err((place, fault)) => Err(refused(place, fault)),
-    }
-}
-
-/// The message of a batch that was prepared on this repository.
-fn prepared_message<D: Digest, const B: u8, A: Allocator + Copy>(
-    alloc: A,
-    core: &Core<D, B, A>,
-    prepared: &PreparedBatch<D, B, A>,
-    told: &Told<'_>,
-) -> Result<Vec<u8, A>, SigningFault<D, A>>
-    requires least { 1 ≤ B }
-    requires same { prepared.now.before ≡ core.now }
-    ensures message { IfOk result (λ message. signed_message D.digest_of B prepared.now.before
-        prepared.now.stamp prepared.now.writes (told_of told.now) ≡ Ok message.items) }
-    ensures fault { IfErr result (IsPreparedFault D.digest_of B prepared.now (told_of told.now)) }
-{
-    let mut lender = match core.lender_with(alloc, prepared) {
-        Ok(lender) => lender,
-        Err(fault) => return Err(refused(last_of(prepared), fault)),
-    };
-    let changes = prepared.changes(alloc)?;
-    let previous = prepared.previous();
-    match stamped_message::<D, B, A, LenderWith<'_, D, A>>(
-        alloc,
-        &mut lender,
-        prepared.root(),
-        prepared.stamp(),
-        &previous,
-        &changes,
-        told,
-    ) {
-        Ok(message) => Ok(message),
-        Err(fault) => Err(untold(fault)),
-    }
-}
-
-/// The place of a prepared batch's last write.
-fn last_of<D: Digest, const B: u8, A: Allocator>(prepared: &PreparedBatch<D, B, A>) -> usize
-    ensures { result + 1 ≡ length prepared.now.writes }
-{
-    prepared.writes().len() - 1
-}
-
-/// What a refusal of the batch is here.
-fn refused<D: Digest, A: Allocator>(place: usize, fault: RepoFault<D, A>) -> SigningFault<D, A>
-    ensures { result ≡ refused_as place fault }
-{
-    match fault {
-        RepoFault::NoMemory => SigningFault::NoMemory,
-        fault => SigningFault::Refused(place, fault),
-    }
-}
-
-/// What it is here that a batch can't be told.
-fn untold<D: Digest, A: Allocator>(fault: UntoldFault) -> SigningFault<D, A>
-    ensures { result ≡ unsigned_as fault }
-{
-    match fault {
-        UntoldFault::NoMemory | UntoldFault::Form(FormFault::NoMemory) => SigningFault::NoMemory,
-        fault => SigningFault::Untold(fault),
     }
 }

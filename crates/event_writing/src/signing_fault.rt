@@ -2,10 +2,12 @@
 
 ghost use Rattle.std.specs.Prelude.{◌≡◌};
 ghost use Rattle.event_writing.specs.declared.signing_fault.SigningFault.TheVariants as signings;
+ghost use Rattle.event_writing.specs.Signing.{refused_as, unsigned_as};
 
 use crate::fault::UntoldFault;
 use batches::RepoFault;
 use cid::Digest;
+use event_format::FormFault;
 use std::alloc::{AllocError, AllocFailed, Allocator, Global};
 use thiserror::Error;
 
@@ -46,5 +48,28 @@ impl<D: Digest, A: Allocator, T: Drop> From<AllocFailed<T>> for SigningFault<D, 
 
     fn from(_: AllocFailed<T>) -> SigningFault<D, A> {
         SigningFault::NoMemory
+    }
+}
+
+/// What a refusal of the batch is here.
+pub(crate) fn refused<D: Digest, A: Allocator>(
+    place: usize,
+    fault: RepoFault<D, A>,
+) -> SigningFault<D, A>
+    ensures { result ≡ refused_as place fault }
+{
+    match fault {
+        RepoFault::NoMemory => SigningFault::NoMemory,
+        fault => SigningFault::Refused(place, fault),
+    }
+}
+
+/// What it is here that a batch can't be told.
+pub(crate) fn untold<D: Digest, A: Allocator>(fault: UntoldFault) -> SigningFault<D, A>
+    ensures { result ≡ unsigned_as fault }
+{
+    match fault {
+        UntoldFault::NoMemory | UntoldFault::Form(FormFault::NoMemory) => SigningFault::NoMemory,
+        fault => SigningFault::Untold(fault),
     }
 }

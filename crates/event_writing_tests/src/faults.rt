@@ -1,7 +1,7 @@
 //! Each fault.
 
 use crate::fixtures::{
-    A, B, C, D, Posts, SINCE, change, changes, filled, opened, shard, told, written,
+    A, B, C, D, Posts, SINCE, change, changes, filled, keys, opened, shard, told, written,
 };
 use cid::Cid;
 use event_format::FormFault;
@@ -94,26 +94,6 @@ fn of_changes(alloc: Global, core: &Posts<Global>) -> bool {
         &no_path,
         UntoldFault::Form(FormFault::BadOp(2)),
     ) && are_untold(alloc, core, &other, UntoldFault::OtherValue(1))
-}
-
-/// Keys of three digits in their order.
-fn keys(alloc: Global, count: u8) -> Result<Vec<[u8; 9]>, AllocError> {
-    let mut keys = Vec::new(alloc);
-    for number in 0..count {
-        let [a, b, c] = [number / 100, number / 10 % 10, number % 10];
-        keys.push([
-            b'p',
-            b'o',
-            b's',
-            b't',
-            b's',
-            b'/',
-            b'0' + a,
-            b'0' + b,
-            b'0' + c,
-        ])?;
-    }
-    Ok(keys)
 }
 
 /// The creation of a record under each of these keys.

@@ -9,7 +9,7 @@ use repo::Core;
 use repo_fixtures::batch::{Step, stamped};
 use repo_fixtures::cores::apply_made;
 use repo_fixtures::ends::Ended;
-use std::alloc::Allocator;
+use std::alloc::{AllocError, Allocator, Global};
 use std::process::Abort;
 use store::{LentShard, Shard, TableKey};
 
@@ -92,6 +92,35 @@ pub(crate) fn filled<G: Digest, const BITS: u8, M: Allocator + Copy>(
     } else {
         None
     }
+}
+
+/// A record of eleven bytes more than these zeros, which are 65,536 or more: a map with a byte string.
+pub(crate) fn record(alloc: Global, zeros: u32) -> Result<Vec<u8>, AllocError> {
+    let mut out = Vec::from_slice(alloc, b"\xa1\x64zero\x5a")?;
+    out.extend_from_slice(&zeros.to_be_bytes())?;
+    let all = vec![in alloc; 0u8; zeros as usize]?;
+    out.extend_from_slice(&all)?;
+    Ok(out)
+}
+
+/// Keys of three digits in their order.
+pub(crate) fn keys(alloc: Global, count: u8) -> Result<Vec<[u8; 9]>, AllocError> {
+    let mut keys = Vec::new(alloc);
+    for number in 0..count {
+        let [a, b, c] = [number / 100, number / 10 % 10, number % 10];
+        keys.push([
+            b'p',
+            b'o',
+            b's',
+            b't',
+            b's',
+            b'/',
+            b'0' + a,
+            b'0' + b,
+            b'0' + c,
+        ])?;
+    }
+    Ok(keys)
 }
 
 /// The CID of a record, if there is one.

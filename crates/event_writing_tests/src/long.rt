@@ -1,23 +1,14 @@
 //! Long records and files.
 
-use crate::fixtures::{Posts, change, opened, shard, told, written};
+use crate::fixtures::{Posts, change, opened, record, shard, told, written};
 use cid::Sha256;
 use event_format::FormFault;
 use event_writing::UntoldFault;
 use repo_fixtures::batch::{Step, batch_at};
 use repo_fixtures::cores::{apply_made, end};
 use repo_fixtures::ends::Ended;
-use std::alloc::{AllocError, Global};
+use std::alloc::Global;
 use store::Shard;
-
-/// A record of eleven bytes more than these zeros, which are 65,536 or more: a map with a byte string.
-fn record(alloc: Global, zeros: u32) -> Result<Vec<u8>, AllocError> {
-    let mut out = Vec::from_slice(alloc, b"\xa1\x64zero\x5a")?;
-    out.extend_from_slice(&zeros.to_be_bytes())?;
-    let all = vec![in alloc; 0u8; zeros as usize]?;
-    out.extend_from_slice(&all)?;
-    Ok(out)
-}
 
 /// How the message of a batch ends that puts two records of these bytes, of which it tells.
 fn told_of_two(

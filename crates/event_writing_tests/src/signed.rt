@@ -3,19 +3,19 @@
 ghost use Rattle.std.specs.Prelude.{◌≤◌};
 
 use crate::fixtures::{
-    A, DID, FIRST, Posts, REV, SECOND, SINCE, opened, shard, told,
+    A, DID, FIRST, Posts, REV, SECOND, SINCE, keys, opened, record, shard, told,
 };
 use crate::worked_bytes::WORKED;
 use batches::RepoFault;
 use cid::{Cid, Digest, Sha256};
 use event_format::FormFault;
-use event_writing::{SigningFault, Told, UntoldFault, apply_signed};
+use event_writing::{SigningFault, Told, UntoldFault, apply_signed, prepared_event};
 use refusing::Refusing;
 use repo::Core;
 use repo_fixtures::batch::{Batch, Step, stamped};
 use repo_fixtures::cores::{apply_made, end};
 use std::alloc::{AllocError, Allocator, Global};
-use store::{LentShard, Shard};
+use store::{LentShard, Shard, TableKey};
 
 /// How a batch ends.
 #[derive(Clone, Copy, PartialEq, Eq)]
@@ -24,6 +24,7 @@ enum End {
     Accepted(u64, bool),
     RootMoved,
     KeyExists(usize),
+    StoreFull(usize),
     Refused,
     Untold(UntoldFault),
     NoMemory,
@@ -45,10 +46,19 @@ fn end_of<M: Allocator + Copy, G: Digest, const BITS: u8>(
         return End::Unmade;
     };
     let mut store = LentShard::new(shard);
-    match apply_signed(alloc, &mut store, core, previous, &batch.stamp, &batch.writes, told) {
+    match apply_signed(
+        alloc,
+        &mut store,
+        core,
+        previous,
+        &batch.stamp,
+        &batch.writes,
+        told,
+    ) {
         Ok(signed) => End::Accepted(signed.applied.number, signed.message.as_slice() == WORKED),
         Err(SigningFault::RootMoved) => End::RootMoved,
         Err(SigningFault::Refused(place, RepoFault::KeyExists)) => End::KeyExists(place),
+        Err(SigningFault::Refused(place, RepoFault::StoreFull)) => End::StoreFull(place),
         Err(SigningFault::Refused(_, _)) => End::Refused,
         Err(SigningFault::Untold(fault)) => End::Untold(fault),
         Err(SigningFault::NoMemory) => End::NoMemory,
@@ -64,24 +74,29 @@ fn end_of_steps(
     steps: &[Step<'_>],
     told: &Told<'_>,
 ) -> End {
-    end_of(alloc, shard, core, previous, stamped(alloc, DID, REV, steps), told)
+    end_of(
+        alloc,
+        shard,
+        core,
+        previous,
+        stamped(alloc, DID, REV, steps),
+        told,
+    )
 }
 
 /// Whether a batch that ends so leaves the repository as it was.
-fn is_left(alloc: Global, shard: &mut Shard<Sha256>, core: &mut Posts<Global>, wanted: End, steps: &[Step<'_>], told: &Told<'_>) -> bool {
+fn is_left(
+    alloc: Global,
+    shard: &mut Shard<Sha256>,
+    core: &mut Posts<Global>,
+    wanted: End,
+    steps: &[Step<'_>],
+    told: &Told<'_>,
+) -> bool {
     let (root, number) = (core.root(), core.number());
     end_of_steps(alloc, shard, core, root, steps, told) == wanted
         && core.root() == root
         && core.number() == number
-}
-
-/// A record of eleven bytes more than these zeros, which are 65,536 or more: a map with a byte string.
-fn record(alloc: Global, zeros: u32) -> Result<Vec<u8>, AllocError> {
-    let mut out = Vec::from_slice(alloc, b"\xa1\x64zero\x5a")?;
-    out.extend_from_slice(&zeros.to_be_bytes())?;
-    let all = vec![in alloc; 0u8; zeros as usize]?;
-    out.extend_from_slice(&all)?;
-    Ok(out)
 }
 
 /// Whether a record that can't be told is refused before its batch is accepted.
@@ -89,8 +104,39 @@ fn long_is_left(alloc: Global, shard: &mut Shard<Sha256>, core: &mut Posts<Globa
     let Ok(record) = record(alloc, 999_990) else {
         return false;
     };
-    let steps = [Step::Create(b"posts/10", A), Step::Create(b"posts/16", &record)];
-    is_left(alloc, shard, core, End::Untold(UntoldFault::RecordSize(1)), &steps, &told())
+    let steps = [
+        Step::Create(b"posts/10", A),
+        Step::Create(b"posts/16", &record),
+    ];
+    is_left(
+        alloc,
+        shard,
+        core,
+        End::Untold(UntoldFault::RecordSize(1)),
+        &steps,
+        &told(),
+    )
+}
+
+/// The creation of a record under each of these keys.
+fn creates<'k>(alloc: Global, keys: &'k [[u8; 9]]) -> Result<Vec<Step<'k>>, AllocError> {
+    let mut steps = Vec::new(alloc);
+    for key in keys {
+        steps.push(Step::Create(key, A))?;
+    }
+    Ok(steps)
+}
+
+/// Whether a batch of 201 creates, which can't be told, is refused before it is accepted.
+fn many_are_left(alloc: Global, shard: &mut Shard<Sha256>, core: &mut Posts<Global>) -> bool {
+    let Ok(keys) = keys(alloc, 201) else {
+        return false;
+    };
+    let many = End::Untold(UntoldFault::Form(FormFault::TooManyOps));
+    match creates(alloc, &keys) {
+        Ok(steps) => is_left(alloc, shard, core, many, &steps, &told()),
+        Err(_) => false,
+    }
 }
 
 /// Whether each refusal leaves the repository as it was.
@@ -109,6 +155,7 @@ fn refusals(alloc: Global, shard: &mut Shard<Sha256>, core: &mut Posts<Global>) 
         )
         && is_left(alloc, shard, core, End::Refused, &[], &told())
         && long_is_left(alloc, shard, core)
+        && many_are_left(alloc, shard, core)
 }
 
 /// Whether the batch before the worked one is accepted.
@@ -139,11 +186,64 @@ fn the_worked_batch_signed(rt: HostRuntime) {
     assert!(rt; signed == End::Accepted(8, true));
 }
 
+#[test]
+fn a_full_store(rt: HostRuntime) {
+    let alloc = rt.alloc();
+    let mut shard = Shard::new(alloc, 11, TableKey::known());
+    let mut core = opened(&rt, alloc, &mut shard);
+    let begun = begins(alloc, &mut shard, &mut core);
+    let full = is_left(
+        alloc,
+        &mut shard,
+        &mut core,
+        End::StoreFull(3),
+        &SECOND,
+        &told(),
+    );
+    end(&mut shard, core);
+    assert!(rt; begun && full);
+}
+
+/// Whether the worked batch has the worked message once it is prepared, and is accepted then.
+fn is_told_ahead(alloc: Global, shard: &mut Shard<Sha256>, core: &mut Posts<Global>) -> bool {
+    let Ok(batch) = stamped(alloc, DID, REV, &SECOND) else {
+        return false;
+    };
+    let Ok(prepared) = core.prepare(alloc, &batch.stamp, &batch.writes) else {
+        return false;
+    };
+    match prepared_event(alloc, core, &prepared, &told()) {
+        Ok(message) => {
+            message.as_slice() == WORKED
+                && core.number() == 4
+                && core.accept(&mut LentShard::new(shard), prepared).is_ok()
+        }
+        Err(_) => false,
+    }
+}
+
+#[test]
+fn the_worked_batch_ahead(rt: HostRuntime) {
+    let alloc = rt.alloc();
+    let mut shard = shard(alloc);
+    let mut core = opened(&rt, alloc, &mut shard);
+    let begun = begins(alloc, &mut shard, &mut core);
+    let told = begun && is_told_ahead(alloc, &mut shard, &mut core);
+    let number = core.number();
+    end(&mut shard, core);
+    assert!(rt; told && number == 8);
+}
+
 /// Memory that refuses requests.
 type Heap<'h> = &'h Refusing<Global>;
 
 /// The end of the worked batch, where the request of this number is refused, and whether the repository is as it was.
-fn tried<'h>(heap: Heap<'h>, shard: &mut Shard<Sha256, Heap<'h>>, core: &mut Posts<Heap<'h>>, number: u64) -> (End, bool) {
+fn tried<'h>(
+    heap: Heap<'h>,
+    shard: &mut Shard<Sha256, Heap<'h>>,
+    core: &mut Posts<Heap<'h>>,
+    number: u64,
+) -> (End, bool) {
     let batch = stamped(heap, DID, REV, &SECOND);
     let root = core.root();
     heap.refuse(number);
@@ -153,7 +253,11 @@ fn tried<'h>(heap: Heap<'h>, shard: &mut Shard<Sha256, Heap<'h>>, core: &mut Pos
 }
 
 /// Whether each request that is refused is told and leaves the repository as it was, up to the batch that is accepted.
-fn tells_each<'h>(heap: Heap<'h>, shard: &mut Shard<Sha256, Heap<'h>>, core: &mut Posts<Heap<'h>>) -> bool {
+fn tells_each<'h>(
+    heap: Heap<'h>,
+    shard: &mut Shard<Sha256, Heap<'h>>,
+    core: &mut Posts<Heap<'h>>,
+) -> bool {
     for number in 1..5_000u64 {
         match tried(heap, shard, core, number) {
             (End::NoMemory, true) => {}

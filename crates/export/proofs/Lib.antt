@@ -16,3 +16,4 @@ pub mod Spelled
 pub mod Walked
 pub mod WholeFile
 mod Full
+mod Among

@@ -4,9 +4,6 @@ use Rattle.spec.specs.Stamps as stamps
 use Rattle.spec.specs.Writes as writes
 use Rattle.spec.specs.Tree.{Pair}
 use Rattle.spec.specs.States.{State, IsLawful, after_batch, state_test, state_root}
-use Rattle.batches.specs.Values.{stamp_of, writes_of}
-use Rattle.batches.specs.declared.stamp.Stamp.{Stamp}
-use Rattle.batches.specs.Write.{Write}
 use Rattle.batches.specs.declared.fault.RepoFault.{RepoFault}
 use Rattle.repo.specs.Readings.{record_at, pairs_from}
 use Rattle.repo.specs.Refusals.{IsRefusal, IsApplied}
@@ -35,6 +32,16 @@ pub record IsSeen (w : Wanted) (s : State) : Type 0 where
   pub limit_is : s.limit ≡ w.limit
   pub long : w.seen ≤ length s.accepted
 
+-- such a state with this root
+pub record IsRooted (digest : List ℕ → List ℕ) (bits : ℕ) (w : Wanted) (root : List ℕ) (s : State)
+    : Type 0 where
+  pub seen : IsSeen w s
+  pub root_is : state_root digest bits s ≡ root
+
+-- such a state with another root
+abbrev pub HasOtherRoot : (List ℕ → List ℕ) → ℕ → Wanted → List ℕ → Type 0
+HasOtherRoot digest bits w root = (s : State) × IsSeen w s × ¬ (state_root digest bits s ≡ root)
+
 -- A core took the batch: it passes its test, the state after it is the one that the batch leaves,
 -- and the answer is of that state.
 pub record IsTakenBy (digest : List ℕ → List ℕ) (bits : ℕ) (old new : State) (stamp : stamps.Stamp)
@@ -53,32 +60,28 @@ abbrev pub ArePairsIn : (List ℕ → List ℕ) → State → List ℕ → ℕ �
 ArePairsIn digest s from most number found =
     (number ≡ length s.accepted) × (found ≡ pairs_from digest s from most)
 
--- the batch was taken after such a state, and these are the number of writes and the root after it
-abbrev pub IsAcceptance : (List ℕ → List ℕ) → ℕ → Wanted → stamps.Stamp → List writes.Write → ℕ
-    → List ℕ → Type 0
-IsAcceptance digest bits w stamp batch number root = (before : State)
-    × IsSeen w before
+-- the batch was taken after a state that is as P says, and these are the number of writes and the
+-- root after it
+abbrev pub IsAcceptanceAfter : (List ℕ → List ℕ) → ℕ → (State → Type 0) → stamps.Stamp
+    → List writes.Write → ℕ → List ℕ → Type 0
+IsAcceptanceAfter digest bits P stamp batch number root = (before : State)
+    × P before
     × (state_test before stamp batch ≡ Ok tt)
     × IsLawful (after_batch before stamp batch)
     × (number ≡ length (after_batch before stamp batch).accepted)
     × (root ≡ state_root digest bits (after_batch before stamp batch))
 
--- the batch was refused after such a state, at this write with this fault
-abbrev pub IsRefusalAfter : {D A : Type 0} → (List ℕ → List ℕ) → ℕ → Wanted → stamps.Stamp
+-- the batch was refused after a state that is as P says, at this write with this fault
+abbrev pub IsRefusalAfter : {D A : Type 0} → (List ℕ → List ℕ) → ℕ → (State → Type 0) → stamps.Stamp
     → List writes.Write → ℕ × RepoFault D A → Type 0
-IsRefusalAfter digest bits w stamp batch e = (before : State) × IsSeen w before
+IsRefusalAfter digest bits P stamp batch e = (before : State) × P before
     × ((full : ℕ) × (fuller : ℕ) × IsRefusal digest bits before stamp batch full fuller e)
 
--- both, of a batch as it is given
-abbrev pub IsTaken : {A : Type 0} → (List ℕ → List ℕ) → ℕ → Wanted → Stamp A → List (Write A)
-    → Applied → Type 0
-IsTaken digest bits w stamp batch a =
-    IsAcceptance digest bits w (stamp_of stamp) (writes_of batch) a.number a.root
-
-abbrev pub IsRefusedSo : {A D X : Type 0} → (List ℕ → List ℕ) → ℕ → Wanted → Stamp A
-    → List (Write A) → ℕ × RepoFault D X → Type 0
-IsRefusedSo digest bits w stamp batch e =
-    IsRefusalAfter digest bits w (stamp_of stamp) (writes_of batch) e
+-- it was taken after such a state
+abbrev pub IsAcceptance : (List ℕ → List ℕ) → ℕ → Wanted → stamps.Stamp → List writes.Write → ℕ
+    → List ℕ → Type 0
+IsAcceptance digest bits w stamp batch number root =
+    IsAcceptanceAfter digest bits (IsSeen w) stamp batch number root
 
 -- the record of a key by such a state, and how many writes that has
 abbrev pub IsFound : Wanted → List ℕ → ℕ → Option (List ℕ) → Type 0

@@ -26,6 +26,19 @@ pub enum HostFault<D: Digest, A: Allocator = Global> {
     SeqFull,
 }
 
+/// Why a batch that was made over a root wasn't applied. The writer is as before then, and so is each core to which the call
+/// came.
+#[derive(Drop, Error)]
+#[derive_where(Debug)]
+pub enum ApplyFromFault<D: Digest, A: Allocator = Global> {
+    /// The repository has another root than the one before: another batch came between.
+    #[error("the repository has another root")]
+    OtherRoot,
+    /// What a batch is refused for wherever it comes from.
+    #[error("{0}")]
+    Host(HostFault<D, A>),
+}
+
 /// Why a host wasn't opened.
 #[derive(Debug, Drop, Error)]
 pub enum OpenFault {

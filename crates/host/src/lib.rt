@@ -5,8 +5,10 @@
 //!
 //! - [`Host::open`] gives a [`Seat`] for each writer and the feed of the queue. A seat goes to the thread that writes, and
 //!   `Host::writer` makes a [`Writer`] of it there.
-//! - `Writer::apply` accepts a batch or refuses it whole, and tells of it by a notice. `get` and `list` read, and never show
-//!   less of a repository than this writer has seen there.
+//! - `Writer::apply` accepts a batch or refuses it whole, and tells of it by a notice. `apply_from` does so where the
+//!   repository has the root that the caller names, for who signed the batch's commit or wrote a message of it before: where
+//!   another writer's batch came between, it is refused. `get` and `list` read, and never show less of a repository than this
+//!   writer has seen there.
 //! - `Writer::publish` makes a version, which `Host::version` shows for good and without a lock: what is to be read often,
 //!   or over a long time, is read by a version.
 //! - `Host::read` lends a repository as it is, under its read lock. So the crate `host_exports` writes a repository as one
@@ -146,13 +148,14 @@ mod host;
 mod limits;
 mod locked;
 mod opening;
+mod rooted;
 mod seat;
 mod version;
 mod waiting;
 mod writer;
 
 pub use atproto::{AtprotoHost, AtprotoOpened, AtprotoReceipt, AtprotoWriter};
-pub use fault::{HostFault, OpenFault};
+pub use fault::{ApplyFromFault, HostFault, OpenFault};
 pub use host::{Host, Opened};
 pub use limits::Limits;
 pub use seat::Seat;

@@ -9,13 +9,16 @@ ghost use Rattle.std.specs.Prelude.{◌≡◌, ◌<◌, IfOk, IfErr, option_map}
 ghost use Rattle.std.specs.Sync.RwLock.{read_guard_value, write_guard_value};
 ghost use Rattle.boxcar.specs.Table.{Shows};
 ghost use Rattle.lookups.specs.Walks.{pairs_given};
-ghost use Rattle.host.specs.Seeing.{IsSeen, IsTaken, IsRefusedSo, IsFound, IsListed, wanted_of};
+ghost use Rattle.host.specs.Rooting.{IsTaken, IsUntaken};
+ghost use Rattle.host.specs.Seeing.{IsSeen, IsFound, IsListed, wanted_of};
 ghost use Rattle.host.specs.Versions.{IsVersion, IsOfState};
 
+use crate::fault::ApplyFromFault;
 use crate::host::Host;
-use crate::locked::{apply_at, is_wanted, pairs_in, record_in};
+use crate::locked::{is_wanted, pairs_in, record_in};
+use crate::rooted::apply_from_at;
 use crate::version::{Receipt, Version, version_in};
-use batches::{RepoFault, Stamp, Write};
+use batches::{Stamp, Write};
 use cid::{Cid, Digest};
 use fitting::element;
 use repo::{Applied, Core};
@@ -65,26 +68,28 @@ impl<D: Digest, const B: u8, A: Allocator + Clone> Host<D, B, A> {
 }
 
 impl<D: Digest, const B: u8, A: Allocator + Copy> Host<D, B, A> {
-    /// Applies the batch under the repository's write lock, once the core has at least `seen` accepted writes.
+    /// Applies the batch under the repository's write lock, once the core has at least `seen` accepted writes, and where it has
+    /// the root that is wanted of it then.
     pub(crate) fn apply<R: Wait>(
         &self,
         rt: &R,
         alloc: A,
         repo: usize,
         seen: u64,
+        root: Option<Cid>,
         stamp: &Stamp<A>,
         writes: &[Write<A>],
-    ) -> Result<Applied, (usize, RepoFault<D, A>)>
+    ) -> Result<Applied, ApplyFromFault<D, A>>
         requires { repo < self.now.repos }
         ensures accepted { IfOk result
-            (IsTaken D.digest_of B (wanted_of self.now repo seen) stamp.now writes.now) }
+            (IsTaken D.digest_of B (wanted_of self.now repo seen) root stamp.now writes.now) }
         ensures refused { IfErr result
-            (IsRefusedSo D.digest_of B (wanted_of self.now repo seen) stamp.now writes.now) }
+            (IsUntaken D.digest_of B (wanted_of self.now repo seen) root stamp.now writes.now) }
     {
         self.fits_in_memory();
         let mut core = self.write(rt, repo, seen);
         let mut store = LockedShards::new(rt, &self.shards);
-        apply_at(alloc, &mut store, &mut core, stamp, writes)
+        apply_from_at(alloc, &mut store, &mut core, root, stamp, writes)
     }
 
     /// The record of a key, with the number of accepted writes, under the repository's read lock, once the core has at least

@@ -1,21 +1,23 @@
 //! A writer: what it has told, what it keeps, and what it has seen.
 
-ghost use Rattle.std.specs.Prelude.{◌≡◌, ◌<◌, ◌≤◌, ◌+◌, ◌++◌, ◌∷◌, [], length, IfOk, IfErr, OnErr, OnOk, Err, option_map};
+ghost use Rattle.std.specs.Prelude.{◌≡◌, ◌<◌, ◌≤◌, ◌+◌, ◌++◌, ◌∷◌, [], length, IfOk, IfErr, OnErr, OnOk, Err, Some, option_map};
 ghost use Rattle.std.specs.VecDeque.{deque_len, deque_capacity};
 ghost use Rattle.boxcar.specs.Table.{Shows};
 ghost use Rattle.lookups.specs.Walks.{pairs_given};
 ghost use Rattle.ended.specs.Ending.{IsEndedAt};
-ghost use Rattle.host.specs.Seeing.{IsTaken, IsRefusedSo, wanted_by};
+ghost use Rattle.host.specs.Rooting.{IsTaken, IsUntaken};
+ghost use Rattle.host.specs.Seeing.{wanted_by};
 ghost use Rattle.host.specs.Versions.{IsVersion, IsOfState};
 ghost use Rattle.host.specs.Views.{ended_of, with_seen};
-ghost use Rattle.host.specs.Telling.{IsFault, IsReadFault, IsPushed, HasNoneBack, IsSame, IsTold, IsOfBatch};
+ghost use Rattle.host.specs.Telling.{IsFault, IsFaultFrom, IsReadFault, IsPushed, HasNoneBack, IsSame, IsTold, IsOfBatch, IsOfBatchFrom};
 ghost use Rattle.host.specs.Telling.{HasNoNumber, HasFound, HasListed, told_by_writer};
+ghost use Rattle.host.specs.declared.fault.ApplyFromFault.TheVariants as froms;
 ghost use Rattle.host.specs.declared.fault.HostFault.TheVariants as faults;
 
-use crate::fault::HostFault;
+use crate::fault::{ApplyFromFault, HostFault};
 use crate::host::Host;
 use crate::version::Receipt;
-use batches::{RepoFault, Stamp, Write};
+use batches::{Stamp, Write};
 use cid::{Cid, Digest};
 use ended::Ended;
 use fitting::element;
@@ -73,24 +75,25 @@ impl<'a, D: Digest, const B: u8, A: Allocator + Clone> Writer<'a, D, B, A> {
 }
 
 impl<'a, D: Digest, const B: u8, A: Allocator + Copy> Writer<'a, D, B, A> {
-    /// What its host answers to a batch.
+    /// What its host answers to a batch for a repository of which this root is wanted, or none.
     fn taken<R: Wait>(
         &self,
         rt: &R,
         alloc: A,
         repo: usize,
+        root: Option<Cid>,
         stamp: &Stamp<A>,
         writes: &[Write<A>],
-    ) -> Result<Applied, (usize, RepoFault<D, A>)>
+    ) -> Result<Applied, ApplyFromFault<D, A>>
         requires { repo < self.now.host.repos }
         ensures accepted { IfOk result
-            (IsTaken D.digest_of B (wanted_by self.now repo) stamp.now writes.now) }
+            (IsTaken D.digest_of B (wanted_by self.now repo) root stamp.now writes.now) }
         ensures refused { IfErr result
-            (IsRefusedSo D.digest_of B (wanted_by self.now repo) stamp.now writes.now) }
+            (IsUntaken D.digest_of B (wanted_by self.now repo) root stamp.now writes.now) }
     {
         let _ = element(self.hosts, 0);
         self.host
-            .apply(rt, alloc, repo, self.seen[repo], stamp, writes)
+            .apply(rt, alloc, repo, self.seen[repo], root, stamp, writes)
     }
 
     /// Applies a batch to a repository, all its writes or none, and tells of it where it is accepted.
@@ -125,18 +128,89 @@ impl<'a, D: Digest, const B: u8, A: Allocator + Copy> Writer<'a, D, B, A> {
         ensures seq_full { repo < self.old.host.repos → HasNoNumber self.old
             → result ≡ Err faults.SeqFull }
     {
+        match self.apply_where(rt, alloc, repo, None, stamp, writes) {
+            Ok(notice) => Ok(notice),
+            Err(ApplyFromFault::Host(fault)) => Err(fault),
+            Err(ApplyFromFault::OtherRoot) => unreachable!(),
+        }
+    }
+
+    /// Applies a batch to a repository that has the root `previous`, as [`apply`](Writer::apply) does.
+    ///
+    /// It is for a batch that was told before it is accepted, by a signature of its commit, a message or a proof: such a one is of
+    /// what it makes of the repository as it was then (`host_exports::prepare` tells it).
+    ///
+    /// `ApplyFromFault::OtherRoot` says that the repository has another root, as where another writer's batch came between. It is
+    /// tested under the repository's lock, before the batch is. `ApplyFromFault::Host` has what `apply` answers, in its order.
+    /// After a refusal the writer is as before.
+    pub fn apply_from<R: Wait>(
+        &mut self,
+        rt: &R,
+        alloc: A,
+        repo: usize,
+        previous: Cid,
+        stamp: &Stamp<A>,
+        writes: &[Write<A>],
+    ) -> Result<Notice, ApplyFromFault<D, A>>
+        ensures told { IfOk result
+            (λ n. told_by_writer self.new ≡ told_by_writer self.old ++ n ∷ []) }
+        ensures notice { IfOk result (IsTold self.old repo) }
+        ensures accepted { IfOk result
+            (IsOfBatchFrom D.digest_of B self.old repo (Some previous) stamp.now writes.now) }
+        ensures seen { IfOk result (λ n. self.new.seen ≡ (with_seen self.old repo n.number).seen) }
+        ensures pushed { OnOk result (IsPushed self.old self.new) }
+        ensures none_back { OnOk result (HasNoneBack self.old self.new) }
+        ensures same { IsSame self.old self.new }
+        ensures unchanged { OnErr result (self.new ≡ self.old) }
+        ensures fault { IfErr result
+            (IsFaultFrom D.digest_of B self.old repo (Some previous) stamp.now writes.now) }
+        ensures missing { self.old.host.repos ≤ repo
+            → result ≡ Err (froms.Host faults.NoSuchRepository) }
+        ensures seq_full { repo < self.old.host.repos → HasNoNumber self.old
+            → result ≡ Err (froms.Host faults.SeqFull) }
+    {
+        self.apply_where(rt, alloc, repo, Some(previous), stamp, writes)
+    }
+
+    /// Both: applies a batch to a repository of which this root is wanted, or none.
+    fn apply_where<R: Wait>(
+        &mut self,
+        rt: &R,
+        alloc: A,
+        repo: usize,
+        root: Option<Cid>,
+        stamp: &Stamp<A>,
+        writes: &[Write<A>],
+    ) -> Result<Notice, ApplyFromFault<D, A>>
+        ensures told { IfOk result
+            (λ n. told_by_writer self.new ≡ told_by_writer self.old ++ n ∷ []) }
+        ensures notice { IfOk result (IsTold self.old repo) }
+        ensures accepted { IfOk result
+            (IsOfBatchFrom D.digest_of B self.old repo root stamp.now writes.now) }
+        ensures seen { IfOk result (λ n. self.new.seen ≡ (with_seen self.old repo n.number).seen) }
+        ensures pushed { OnOk result (IsPushed self.old self.new) }
+        ensures none_back { OnOk result (HasNoneBack self.old self.new) }
+        ensures same { IsSame self.old self.new }
+        ensures unchanged { OnErr result (self.new ≡ self.old) }
+        ensures fault { IfErr result
+            (IsFaultFrom D.digest_of B self.old repo root stamp.now writes.now) }
+        ensures missing { self.old.host.repos ≤ repo
+            → result ≡ Err (froms.Host faults.NoSuchRepository) }
+        ensures seq_full { repo < self.old.host.repos → HasNoNumber self.old
+            → result ≡ Err (froms.Host faults.SeqFull) }
+    {
         if repo >= self.repos() {
-            return Err(HostFault::NoSuchRepository);
+            return Err(ApplyFromFault::Host(HostFault::NoSuchRepository));
         }
         if self.last == u64::MAX {
-            return Err(HostFault::SeqFull);
+            return Err(ApplyFromFault::Host(HostFault::SeqFull));
         }
         let Ok(()) = self.kept.reserve(1) else {
-            return Err(HostFault::NoMemory);
+            return Err(ApplyFromFault::Host(HostFault::NoMemory));
         };
-        let applied = match self.taken(rt, alloc, repo, stamp, writes) {
+        let applied = match self.taken(rt, alloc, repo, root, stamp, writes) {
             Ok(applied) => applied,
-            Err((place, fault)) => return Err(HostFault::Refused(place, fault)),
+            Err(fault) => return Err(fault),
         };
         self.seen[repo] = applied.number;
         self.last += 1;

@@ -8,9 +8,9 @@ use Rattle.change_laws.specs.Told.{KeyChange}
 use Rattle.change_proofs.specs.Provings.{IsUntrue}
 use Rattle.change_proofs.specs.declared.proving_fault.ProvingFault.{ProvingFault}
 use Rattle.change_proofs.specs.declared.proving_fault.ProvingFault.TheVariants as provings
-use Rattle.host.specs.Seeing.{IsSeen, wanted_of}
+use Rattle.host.specs.Seeing.{IsRooted, IsSeen, wanted_of}
 use Rattle.host.specs.Views.{HostView}
-use Rattle.host_exports.specs.ChangeProofs.{IsRooted, IsNoStepIn, IsNoInversionIn, IsProveChangeFault, IsProveInversionFault, of_proving}
+use Rattle.host_exports.specs.ChangeProofs.{IsNoStepIn, IsNoInversionIn, IsProveChangeFault, IsProveInversionFault, of_proving}
 use Rattle.host_exports.specs.declared.fault.ProveChangeFault.{ProveChangeFault}
 use Rattle.host_exports.specs.declared.fault.ProveChangeFault.TheVariants as steps
 use Rattle.host_exports.specs.declared.fault.ProveInversionFault.{ProveInversionFault}

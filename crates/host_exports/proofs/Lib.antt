@@ -1,1 +1,2 @@
 mod ChangeProving
+mod Preparation

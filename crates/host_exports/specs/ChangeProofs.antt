@@ -9,21 +9,12 @@ use Rattle.change_proofs.specs.Provings.{IsProofOf, ShowsChanges, IsUntrue}
 use Rattle.change_proofs.specs.StepProvings.{IsStepOf}
 use Rattle.change_proofs.specs.declared.proving_fault.ProvingFault.{ProvingFault}
 use Rattle.change_proofs.specs.declared.proving_fault.ProvingFault.TheVariants as provings
-use Rattle.host.specs.Seeing.{IsSeen, Wanted, wanted_of}
+use Rattle.host.specs.Seeing.{HasOtherRoot, IsRooted, Wanted, wanted_of}
 use Rattle.host.specs.Views.{HostView}
 use Rattle.host_exports.specs.declared.fault.ProveChangeFault.{ProveChangeFault}
 use Rattle.host_exports.specs.declared.fault.ProveChangeFault.TheVariants as steps
 use Rattle.host_exports.specs.declared.fault.ProveInversionFault.{ProveInversionFault}
 use Rattle.host_exports.specs.declared.fault.ProveInversionFault.TheVariants as inversions
-
--- a lawful state of the wanted repository, with this root
-pub record IsRooted (digest : List ℕ → List ℕ) (bits : ℕ) (w : Wanted) (root : List ℕ) (s : State) : Type 0 where
-  pub seen : IsSeen w s
-  pub root_is : state_root digest bits s ≡ root
-
--- a lawful state of it has another root
-abbrev pub HasOtherRoot : (List ℕ → List ℕ) → ℕ → Wanted → List ℕ → Type 0
-HasOtherRoot digest bits w root = (s : State) × IsSeen w s × ¬ (state_root digest bits s ≡ root)
 
 -- ---- a step
 

@@ -1,7 +1,10 @@
-//! Why there is no CAR or no proof.
+//! Why there is no CAR, no proof, or no batch that is told.
 
+use batches::RepoFault;
 use change_proofs::ProvingFault;
+use cid::Digest;
 use export::ExportFault;
+use std::alloc::{Allocator, Global};
 use thiserror::Error;
 
 /// Why there is no CAR of a host's repository.
@@ -55,6 +58,18 @@ pub enum ProveInversionFault {
     /// Memory was refused.
     #[error("out of memory")]
     NoMemory,
+}
+
+/// Why a batch for a host's repository isn't told before it is accepted.
+#[derive(Drop, Error)]
+#[derive_where(Debug)]
+pub enum PrepareFault<D: Digest, A: Allocator = Global> {
+    /// There is no repository of this number.
+    #[error("there is no such repository")]
+    NoSuchRepository,
+    /// The batch is refused: the place of the refused write, from 0, and the fault.
+    #[error("the batch is refused at write {0}")]
+    Refused(usize, RepoFault<D, A>),
 }
 
 impl From<ProvingFault> for ProveInversionFault {

@@ -22,6 +22,8 @@ mod no_memory;
 #[cfg(test)]
 mod opening;
 #[cfg(test)]
+mod preparing;
+#[cfg(test)]
 mod queue_of_two;
 #[cfg(test)]
 mod refusals;

@@ -1,16 +1,21 @@
 //! The repository, its store and its next batch.
 
-ghost use Rattle.std.specs.Prelude.{◌≡◌, ◌≤◌, true, Ok, IfOk, IfErr, OnOk, OnErr};
+ghost use Rattle.std.specs.Prelude.{◌≡◌, ◌<◌, ◌≤◌, true, length, Ok, Err, IfOk, IfErr, OnOk, OnErr};
 ghost use Rattle.sha2.specs.Sha256.{sha256};
 ghost use Rattle.spec.specs.States.{IsLawful, after_batch, fresh, state_test};
 ghost use Rattle.repo.specs.Fulls.{fulls_after_batch, fulls_after_step, is_full};
 ghost use Rattle.repo.specs.Refusals.{IsRefusal, IsApplied, IsOpenRefusal};
 ghost use Rattle.batches.specs.Values.{stamp_of, write_of, writes_of};
+ghost use Rattle.batches.specs.declared.fault.RepoFault.TheVariants as faults;
+ghost use Rattle.repository_check.specs.Views.{records_of};
+ghost use Rattle.checked_opening.specs.Opening.{state_of, IsOpenable};
+ghost use Rattle.checked_opening.specs.Refusals.{IsRefusal as IsRefusalOf};
 ghost use Rattle.store.specs.Shards.{WasFull};
-ghost use Rattle.owned_repo.specs.Owning.{opened, staged, cleared, applied};
+ghost use Rattle.owned_repo.specs.Owning.{opened, holding, staged, cleared, applied};
 
 use crate::own_shards::OwnShards;
 use batches::{RepoFault, Stamp, Write};
+use checked_opening::open_checked;
 use cid::Sha256;
 use repo::{Applied, Core};
 use std::alloc::{AllocError, Global};
@@ -62,6 +67,36 @@ impl OwnedRepo {
     {
         let mut store = OwnShards::empty(alloc);
         match Core::open(alloc, &mut store, 0, limit) {
+            Ok(core) => Ok(OwnedRepo {
+                core,
+                store,
+                pending: Vec::new(alloc),
+            }),
+            Err(fault) => Err(fault),
+        }
+    }
+
+    /// A repository with the records of a file that was checked, which may have `limit` writes: as
+    /// `checked_opening::open_checked` has it, by one batch under the DID and the revision of the file's commit.
+    /// `RepoFault::WritesFull` comes, before anything is done, where the file has more records than `limit`, and
+    /// `RepoFault::StoreFull` only where a shard of its store has 1,048,576 blocks.
+    pub fn open_checked(
+        alloc: Global,
+        limit: usize,
+        found: &repository_check::Repository<'_>,
+    ) -> Result<OwnedRepo, RepoFault<Sha256>>
+        requires least { 1 ≤ limit }
+        requires most { limit ≤ 1048576 }
+        requires openable { IsOpenable sha256 2 found.now }
+        ensures opened { IfOk result (λ repo. repo ≡ holding (state_of 0 limit found.now)) }
+        ensures many { limit < length (records_of found.now) → result ≡ Err faults.WritesFull }
+        ensures fault { IfErr result (IsRefusalOf sha256 2 0 limit found.now
+            0 (fulls_after_step 0 result)) }
+        ensures full { IfErr result
+            (λ fault. is_full fault ≡ true → WasFull sha256 1048576) }
+    {
+        let mut store = OwnShards::empty(alloc);
+        match open_checked::<Sha256, 2, _>(alloc, &mut store, 0, limit, found) {
             Ok(core) => Ok(OwnedRepo {
                 core,
                 store,

@@ -6,3 +6,4 @@ pub mod Pushes
 pub mod Records
 pub mod Formed
 pub mod ReadsBack
+pub mod Spelt

@@ -4,5 +4,6 @@ pub mod KeyOrder
 pub mod Reading
 pub mod Kinds
 pub mod Puts
+pub mod Texts
 pub mod OfBytes
 pub mod Laws

@@ -9,3 +9,9 @@ mod Handing
 mod Knowing
 mod Causes
 mod Going
+mod Listing
+mod Texts
+mod Hosting
+mod Checking
+mod FromFiles
+mod Differed

@@ -7,6 +7,13 @@ pub mod Below
 pub mod Changing
 pub mod Inverting
 pub mod Parting
+pub mod NodeEntries
+pub mod HostedChanges
+pub mod RecordTexts
+pub mod Checked
+pub mod Opened
+pub mod Differing
+pub mod Lacking
 pub use Rattle.spec.specs.Cid
 pub use Rattle.spec.specs.Layer
 pub use Rattle.spec.specs.States

@@ -105,7 +105,10 @@ fn proof_bytes(
 }
 
 /// A proof, spelt.
-fn spell_proof(alloc: Global, proof: &ChangeProof<'_, Sha256>) -> Result<Vec<u8>, AllocError>
+pub(crate) fn spell_proof(
+    alloc: Global,
+    proof: &ChangeProof<'_, Sha256>,
+) -> Result<Vec<u8>, AllocError>
     ensures { IfOk result (λ bytes. bytes.items ≡ proof_bytes_of proof.now.after
         proof.now.changes.items (map arc_value proof.now.nodes.items)) }
 {

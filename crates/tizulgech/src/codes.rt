@@ -34,7 +34,7 @@ pub(crate) const FULL: u8 = 254;
 pub(crate) const NO_MEMORY: u8 = 255;
 
 /// The number of a fault of a record.
-fn fault_of_record(fault: CborFault) -> u8
+pub(crate) fn fault_of_record(fault: CborFault) -> u8
     ensures { result ≡ record_number fault }
 {
     match fault {

@@ -168,7 +168,10 @@ fn written(alloc: Global, edit: &BatchEdit<Sha256>) -> Result<Vec<u8>, AllocErro
 }
 
 /// Puts nodes at the end, each with its CID and its length in front.
-fn push_nodes(bytes: &mut Vec<u8>, nodes: &[Arc<Block<Sha256>>]) -> Result<(), AllocError>
+pub(crate) fn push_nodes(
+    bytes: &mut Vec<u8>,
+    nodes: &[Arc<Block<Sha256>>],
+) -> Result<(), AllocError>
     ensures { OnOk result (bytes.new.items
         ≡ bytes.old.items ++ blocks_bytes sha256 (map arc_value nodes.now)) }
 {

@@ -13,17 +13,24 @@
 
 mod below;
 mod changes;
+mod checked_files;
 mod cids;
 mod codes;
+mod differing;
 mod edits;
 mod files;
+mod hosted_changes;
 mod inversions;
+mod lacking;
 mod listings;
+mod node_entries;
 mod nodes;
 mod opening;
+mod opening_files;
 mod pages;
 mod proving;
 mod reading;
+mod record_texts;
 mod sections;
 mod staging;
 mod stamps;

@@ -16,7 +16,7 @@ use std::alloc::{AllocError, Global};
 /// The key of a change has another value in the tree whose nodes are given.
 pub(crate) const OTHER_VALUE: u8 = 33;
 /// The changes lead to another root.
-const OTHER_ROOT: u8 = 34;
+pub(crate) const OTHER_ROOT: u8 = 34;
 
 /// What a verdict is told.
 pub(crate) fn tell_verdict(

@@ -9,7 +9,7 @@ ghost use Rattle.tizulgech.specs.Numbers.{IsProof, IsProofTold, IsVerified};
 use crate::codes::{BAD, BAD_NODE, MISSING, NO_MEMORY, NONE, TOO_DEEP};
 use buffers::{DONE, cid_in, slices};
 use cid::{Cid, Sha256};
-use export::{ProofFault, verify};
+use export::{ProofFault, verify_among};
 use std::alloc::Global;
 
 /// What the blocks of a proof show of a key under a root: 0 and its value; 24 where the tree doesn't have it; 2 where a block of the
@@ -36,19 +36,21 @@ pub extern "C" fn tizulgech_verify(
         Ok(None) => return BAD,
         Err(_) => return NO_MEMORY,
     };
-    verify_parts(&root, &blocks, key, value)
+    verify_parts(alloc, &root, &blocks, key, value)
 }
 
 /// The same of a list of blocks.
 #[tactic(auto, using(crate::proofs::Told::proof_told))]
-fn verify_parts(root: &Cid, blocks: &[&[u8]], key: &[u8], value: &mut [u8]) -> u8
+fn verify_parts(alloc: Global, root: &Cid, blocks: &[&[u8]], key: &[u8], value: &mut [u8]) -> u8
     requires { length value.old ≡ 36 }
-    ensures answer { IsProof result value.new
+    ensures answer { nat_eq result 255 ≡ false → IsProof result value.new
         (verified sha256 2 root.now (map (λ block. block.now) blocks.now) key.now) }
     ensures kept { ¬ (result ≡ 0) → value.new ≡ value.old }
 {
-    let answer = verify::<Sha256, 2, _>(root, blocks, key);
-    told_proof(&answer, value)
+    match verify_among::<Sha256, 2, _, _>(alloc, root, blocks, key) {
+        Ok(answer) => told_proof(&answer, value),
+        Err(_) => NO_MEMORY,
+    }
 }
 
 /// The number of an answer, with its CID.

@@ -4,8 +4,8 @@ use batches::RepoFault;
 use cid::Sha256;
 use closing::Mismatch;
 use export::ExportFault;
-use host::{HostFault, OpenFault};
-use host_exports::{CarFault, ProveChangeFault, ProveFault, ProveInversionFault};
+use host::{ApplyFromFault, HostFault, OpenFault};
+use host_exports::{CarFault, PrepareFault, ProveChangeFault, ProveFault, ProveInversionFault};
 use std::alloc::{AllocError, Global};
 
 #[test]
@@ -50,6 +50,39 @@ fn faults_of_a_host(rt: HostRuntime) {
             "the writer has no number for one more accepted call"
         )
     );
+}
+
+#[test]
+fn faults_of_a_batch_from_a_root(rt: HostRuntime) {
+    let rows: [(ApplyFromFault<Sha256>, &'static str); 2] = [
+        (ApplyFromFault::OtherRoot, "the repository has another root"),
+        (
+            ApplyFromFault::Host(HostFault::Refused(3, RepoFault::BadRev)),
+            "the batch is refused at write 3",
+        ),
+    ];
+    for (fault, sentence) in &rows {
+        let told = format!(in rt.alloc(); "{fault}").expect(&rt, "memory");
+        assert!(rt; told.as_str() == *sentence, "{told}");
+    }
+}
+
+#[test]
+fn faults_of_a_batch_that_is_not_told(rt: HostRuntime) {
+    let rows: [(PrepareFault<Sha256>, &'static str); 2] = [
+        (
+            PrepareFault::NoSuchRepository,
+            "there is no such repository",
+        ),
+        (
+            PrepareFault::Refused(1, RepoFault::NoMemory),
+            "the batch is refused at write 1",
+        ),
+    ];
+    for (fault, sentence) in &rows {
+        let told = format!(in rt.alloc(); "{fault}").expect(&rt, "memory");
+        assert!(rt; told.as_str() == *sentence, "{told}");
+    }
 }
 
 #[test]

@@ -7,6 +7,7 @@ use Rattle.tree_command.specs.declared.options.TreeOptions.{TreeOptions}
 use Rattle.repository_commands.specs.declared.words.RepositoryCommand.TheVariants as commands
 use Rattle.change_commands.specs.declared.words.ChangeCommand.TheVariants as changes
 use Rattle.event_commands.specs.declared.command.EventCommand.TheVariants as messages
+use Rattle.event_commands.specs.declared.command.Subject.TheVariants as subjects
 use Rattle.export_commands.specs.declared.command.ExportCommand.TheVariants as exports
 use Rattle.commands.specs.declared.command_line.Request.{Request}
 use Rattle.commands.specs.declared.command_line.Request.TheVariants as requests
@@ -38,7 +39,8 @@ only (requests.OnRepository (commands.Prove key form)) is = absurd (cc)
 only (requests.OnRepository (commands.Verify root key)) is = absurd (cc)
 only (requests.OnChange (changes.Prove direction form)) is = absurd (cc)
 only (requests.OnChange (changes.Verify direction before after)) is = absurd (cc)
-only (requests.OnMessages (messages.Commit words form)) is = absurd (cc)
+only (requests.OnMessages (messages.Write subjects.Batch words form)) is = absurd (cc)
+only (requests.OnMessages (messages.Write subjects.State words form)) is = absurd (cc)
 only (requests.OnMessages (messages.Check previous form)) is = absurd (cc)
 only (requests.OnExport exports.Check) is = absurd (cc)
 only (requests.OnExport (exports.Records values)) is = absurd (cc)
@@ -58,7 +60,8 @@ only_paths (requests.OnRepository (commands.Prove key form)) is = absurd (cc)
 only_paths (requests.OnRepository (commands.Verify root key)) is = absurd (cc)
 only_paths (requests.OnChange (changes.Prove direction form)) is = absurd (cc)
 only_paths (requests.OnChange (changes.Verify direction before after)) is = absurd (cc)
-only_paths (requests.OnMessages (messages.Commit words form)) is = absurd (cc)
+only_paths (requests.OnMessages (messages.Write subjects.Batch words form)) is = absurd (cc)
+only_paths (requests.OnMessages (messages.Write subjects.State words form)) is = absurd (cc)
 only_paths (requests.OnMessages (messages.Check previous form)) is = absurd (cc)
 only_paths (requests.OnExport exports.Check) is = absurd (cc)
 only_paths (requests.OnExport (exports.Records values)) is = absurd (cc)

@@ -1,6 +1,6 @@
 use Rattle.std.proofs.Common.{rules, ◌<◌, arith, length, sym, subst, IfOk, IfErr}
 use Rattle.host.specs.Views.{WriterView}
-use Rattle.host.specs.Seeing.{IsTaken, IsRefusedSo}
+use Rattle.host.specs.Rooting.{IsTaken, IsUntaken}
 use Rattle.host.specs.Seeing.{Wanted}
 use Rattle.host.proofs.Wanting.{wanted_is}
 use Rattle.host.proofs.writer.Writer.taken.Goals as goal
@@ -14,7 +14,7 @@ returns-clause-accepted g c =
     let places = c.self.invariant.places in
     let place : c.args.repo < length c.self.inside.seen.items = omega (arith, here, places) in
     let same = wanted_is c.args.self.now c.self.inside.host.now c.self.inside.seen.items c.args.repo c.index.result.now (search rules) (search rules) place c.index.ensures in
-    subst (λ (w : Wanted). IfOk c.apply.result (IsTaken g.D.Digest.digest_of g.row.B w c.args.stamp.now c.args.writes.now)) same c.apply.ensures.accepted
+    subst (λ (w : Wanted). IfOk c.apply.result (IsTaken g.D.Digest.digest_of g.row.B w c.args.root c.args.stamp.now c.args.writes.now)) same c.apply.ensures.accepted
 
 pub returns-clause-refused : goal.returns-clause-refused
 returns-clause-refused g c =
@@ -22,7 +22,7 @@ returns-clause-refused g c =
     let places = c.self.invariant.places in
     let place : c.args.repo < length c.self.inside.seen.items = omega (arith, here, places) in
     let same = wanted_is c.args.self.now c.self.inside.host.now c.self.inside.seen.items c.args.repo c.index.result.now (search rules) (search rules) place c.index.ensures in
-    subst (λ (w : Wanted). IfErr c.apply.result (IsRefusedSo g.D.Digest.digest_of g.row.B w c.args.stamp.now c.args.writes.now)) same c.apply.ensures.refused
+    subst (λ (w : Wanted). IfErr c.apply.result (IsUntaken g.D.Digest.digest_of g.row.B w c.args.root c.args.stamp.now c.args.writes.now)) same c.apply.ensures.refused
 
 pub index-requires : goal.index-requires
 index-requires g c =

@@ -1,11 +1,11 @@
 use Rattle.std.proofs.Common.{◌≡◌, ◌+◌, ◌%◌, ◌^◌, ◌∷◌, ◌++◌, [], length, sym, ap, ◌∙◌, subst, arith, length-append, length-set}
 use Rattle.notices.specs.declared.notice.Notice.{Notice}
 use Rattle.batches.specs.Values.{stamp_of, writes_of}
-use Rattle.host.specs.Seeing.{IsAcceptance, wanted_by}
-use Rattle.host.specs.Seeing.{Wanted}
+use Rattle.host.specs.Rooting.{IsSeenWith}
+use Rattle.host.specs.Seeing.{IsAcceptanceAfter, Wanted, wanted_by}
 use Rattle.host.specs.Views.{WriterView, IsOrderly}
 use Rattle.host.proofs.Keeping.{orderly_push}
-use Rattle.host.proofs.writer.Writer.apply.Goals as goal
+use Rattle.host.proofs.writer.Writer.apply_where.Goals as goal
 
 pub invariant_of-self-3 : goal.invariant_of-self-3
 invariant_of-self-3 g c =
@@ -25,7 +25,8 @@ invariant_of-self-3 g c =
 pub returns-clause-accepted : goal.returns-clause-accepted
 returns-clause-accepted g c =
     let a = c.in-Ok-taken.applied in
-    subst (λ (w : Wanted). IsAcceptance g.D.Digest.digest_of g.row.B w (stamp_of c.args.stamp.now) (writes_of c.args.writes.now) a.number a.root)
+    subst (λ (w : Wanted). IsAcceptanceAfter g.D.Digest.digest_of g.row.B (IsSeenWith g.D.Digest.digest_of g.row.B w c.args.root)
+    (stamp_of c.args.stamp.now) (writes_of c.args.writes.now) a.number a.root)
     (ap (λ (w : WriterView). wanted_by w c.args.repo) c.self.view_is) c.in-Ok-taken.ensures.accepted
 
 pub returns-clause-pushed : goal.returns-clause-pushed
