@@ -1,10 +1,9 @@
 -- What bytes mean as JSON, by whether they are UTF-8.
-use Rattle.std.proofs.Common.{◌≡◌, ◌∙◌, ℕ, true, false, List, [], refl, sym, ap, subst}
-use Rattle.std.specs.Prelude.{Result, Err, if◌then◌else◌}
+use Rattle.std.proofs.Common.{◌≡◌, ℕ, false, List, [], refl}
+use Rattle.std.specs.Prelude.{Err}
 use Rattle.std.specs.Str.{IsUtf8, is_utf8}
 use Rattle.std.proofs.lemmas.Str.{is_utf8-from_IsUtf8}
-use Rattle.spec.specs.DagCbor.{Value}
-use Rattle.record_json.specs.Reading.{Fault, NotJson, value_of_json}
+use Rattle.record_json.specs.Reading.{NotJson, value_of_json}
 use Rattle.record_json.specs.Texts.{value_of_json_text}
 
 -- what is UTF-8 means what it means as a text

@@ -1,5 +1,5 @@
 -- What is told of a file, by what the check answered.
-use Rattle.std.proofs.Common.{◌≡◌, ℕ, List, Bool, true, false, length, map, refl, sym, ap, subst, ◌∙◌}
+use Rattle.std.proofs.Common.{◌≡◌, ℕ, List, false, length, map, sym, subst, ◌∙◌}
 use Rattle.std.specs.Prelude.{Ok, Err, IfSome, nat_eq}
 use Rattle.std.proofs.lemmas.List.{length-map}
 use Rattle.sha2.specs.Sha256.{sha256}

@@ -1,5 +1,5 @@
 -- What is told of the JSON of records, by what the code answers.
-use Rattle.std.proofs.Common.{◌≡◌, ℕ, List, false, refl, sym, subst}
+use Rattle.std.proofs.Common.{◌≡◌, ℕ, List, false, sym, subst}
 use Rattle.std.specs.Prelude.{Result, Ok, nat_eq}
 use Rattle.spec.specs.Head.{CborFault}
 use Rattle.spec.specs.Reading.{Fails}

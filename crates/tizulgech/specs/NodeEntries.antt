@@ -1,5 +1,5 @@
 -- What is told of the pairs and the links of a node.
-use Rattle.std.specs.Prelude.{◌≡◌, ℕ, ◌++◌, List, Option, Some, None, Result, Ok, Err}
+use Rattle.std.specs.Prelude.{◌≡◌, ℕ, ◌++◌, List, Option, Result, Ok, Err}
 use Rattle.std.specs.List.{flat_map}
 use Rattle.spec.specs.NodeFormat.{Entry}
 use Rattle.buffers.specs.Answers.{pair_bytes, value_bytes}

@@ -1,5 +1,5 @@
 -- What is told of the JSON of records, and of the texts of links.
-use Rattle.std.specs.Prelude.{◌≡◌, ℕ, ◌&&◌, Bool, true, false, nat_eq, nat_le, List, Option, Some, None, Result, Ok, Err}
+use Rattle.std.specs.Prelude.{◌≡◌, ℕ, ◌&&◌, Bool, true, false, nat_le, List, Option, Some, None, Result, Ok, Err}
 use Rattle.spec.specs.Head as cbor
 use Rattle.spec.specs.DagCbor.{Value, spelling}
 use Rattle.record_json.specs.Form.{has_form, json_of}

@@ -3,7 +3,7 @@
 ghost use Rattle.std.specs.Prelude.{◌≡◌, false, nat_eq, option_map, string_bytes, IsTrue};
 ghost use Rattle.spec.specs.DagCbor.{read as record_of, is_lawful};
 ghost use Rattle.dagcbor.specs.View.{view};
-ghost use Rattle.record_json.specs.Form.{has_form as has_form_of, json_of as json_text_of};
+ghost use Rattle.record_json.specs.Form.{has_form as has_form_of};
 ghost use Rattle.record_json.specs.LinkText.{link_of_text};
 ghost use Rattle.record_json.specs.Texts.{text_of_link, value_of_json_text};
 ghost use Rattle.buffers.specs.Answers.{IsKept};
