@@ -18,7 +18,7 @@ help:
 	@echo 'make edits             the wrong bodies that the gate does not try, before a release; CRATE=name: of one crate'
 	@echo 'make answers CRATE=name  writes out the answers that the must-fail edits of a crate break, over what make check kept'
 	@echo 'make plant CRATE=name  wrong bodies that the contracts of a crate let through'
-	@echo 'make bench             builds and runs the measurements'
+	@echo 'make bench             measures each job beside a plain program, and writes the table of docs/PERFORMANCE.md'
 	@echo 'make gate-times        the gate, and the processor time that it took, crate by crate'
 	@echo 'make pictures          draws docs/pictures and the tables that are made of crates.txt anew'
 	@echo 'make clean             takes away what was built'

@@ -30,6 +30,7 @@ IN_PYTHON = [it for it in COMMANDS if text_of(f"tools/{it}").startswith("#!/usr/
 # What each is given that it can't do anything with.
 FAULTY: dict[str, list[str]] = {
     "baseline": ["exports", "--program", "nosuch"],
+    "bench": ["--program", "nosuch"],
     "build": ["nosuch"],
     "compare-runs": ["nosuch"],
     "draw-pictures": ["nosuch"],

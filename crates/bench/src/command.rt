@@ -45,6 +45,10 @@ pub enum Command {
         count: u32,
         rounds: u32,
     },
+    Messages {
+        count: u32,
+        rounds: u32,
+    },
     Hosts(Load),
     Versions(Reading),
 }
@@ -97,6 +101,7 @@ fn of_two(name: &str, count: u32, rounds: u32) -> Option<Command> {
         "edit" => Some(Command::Edit { count, rounds }),
         "apply-flat" if count <= 500_000 => Some(Command::ApplyFlat { count, rounds }),
         "export" => Some(Command::Export { count, rounds }),
+        "messages" => Some(Command::Messages { count, rounds }),
         _ => None,
     }
 }

@@ -1,14 +1,14 @@
 //! Two trees compared, over the nodes of both in memory.
 
 use crate::trees;
-use crate::watch::Watch;
+use crate::watch::Meter;
 use cid::{Cid, Sha256};
 use difference::difference;
 use lookups::BlockMap;
 use std::alloc::Global;
-use std::time::Clock;
+use std::time::CpuClock;
 
-/// What two trees differ by, how many blocks were read for it, and the nanoseconds of the quickest round.
+/// What two trees differ by, how many blocks were read for it, and the nanoseconds of processor time of the quickest round.
 #[derive(Clone, Copy, Drop)]
 pub struct Compared {
     pub changes: usize,
@@ -19,7 +19,7 @@ pub struct Compared {
 }
 
 /// Compares the trees of these pairs so many times. `None` where one can't be built or memory is refused.
-pub fn measure<R: Clock>(
+pub fn measure<R: CpuClock>(
     rt: &R,
     alloc: Global,
     old: &[(Vec<u8>, Cid)],
@@ -41,7 +41,7 @@ pub fn measure<R: Clock>(
 }
 
 /// Compares the trees with these roots so many times, and keeps what the last round came to.
-fn compare<R: Clock>(
+fn compare<R: CpuClock>(
     rt: &R,
     alloc: Global,
     map: &mut BlockMap<'_, Sha256>,
@@ -58,11 +58,11 @@ fn compare<R: Clock>(
     };
     for _ in 0..rounds {
         let before = map.reads();
-        let watch = Watch::start(rt);
+        let meter = Meter::start(rt);
         let Ok(found) = difference::<Sha256, 2, _, _>(alloc, map, old, new) else {
             return None;
         };
-        compared.least = compared.least.min(watch.nanos(rt));
+        compared.least = compared.least.min(meter.nanos(rt));
         compared.reads = map.reads().saturating_sub(before);
         compared.changes = found.changes.len();
         compared.come = found.come.len();

@@ -1,6 +1,7 @@
 //! The CAR of a repository, and proofs of its keys.
 
-use crate::watch::Watch;
+use crate::hashing::are_hashed;
+use crate::watch::Meter;
 use block::Block;
 use cid::{Cid, Sha256};
 use export::{ToMemory, car, prove, verify};
@@ -8,9 +9,9 @@ use repo::Core;
 use std::alloc::{AllocError, Global};
 use std::mem;
 use std::sync::Arc;
-use std::time::Clock;
+use std::time::CpuClock;
 
-/// What was measured of a repository's exports, in nanoseconds of the quickest round.
+/// What was measured of a repository's exports, in nanoseconds of processor time of the quickest round.
 #[derive(Clone, Copy, Drop)]
 pub struct Exported {
     /// How many bytes its CAR has.
@@ -52,8 +53,19 @@ impl Proofs {
         }
     }
 
+    /// The same without so many nanoseconds of each key's times, in which nothing was done.
+    fn without(&self, nothing: u128) -> Proofs {
+        let nothing = nothing.saturating_mul(u128::from(self.keys));
+        Proofs {
+            prove: self.prove.saturating_sub(nothing),
+            verify: self.verify.saturating_sub(nothing),
+            hash: self.hash.saturating_sub(nothing),
+            ..*self
+        }
+    }
+
     /// Makes the proof of one key, and answers whether it shows the key's value.
-    fn add<R: Clock>(
+    fn add<R: CpuClock>(
         &mut self,
         rt: &R,
         alloc: Global,
@@ -61,9 +73,9 @@ impl Proofs {
         key: &[u8],
         value: Cid,
     ) -> bool {
-        let watch = Watch::start(rt);
+        let meter = Meter::start(rt);
         let made = prove(alloc, core, key);
-        self.prove = self.prove.saturating_add(watch.nanos(rt));
+        self.prove = self.prove.saturating_add(meter.nanos(rt));
         match made {
             Ok(nodes) => self.check(rt, alloc, core.root(), &nodes, key, value),
             Err(_) => false,
@@ -71,7 +83,7 @@ impl Proofs {
     }
 
     /// Verifies a proof of one key, and answers whether it shows this value.
-    fn check<R: Clock>(
+    fn check<R: CpuClock>(
         &mut self,
         rt: &R,
         alloc: Global,
@@ -83,12 +95,12 @@ impl Proofs {
         let Ok(blocks) = bytes_of(alloc, nodes) else {
             return false;
         };
-        let watch = Watch::start(rt);
+        let meter = Meter::start(rt);
         let answer = verify::<Sha256, 2, &[u8]>(&root, &blocks, key);
-        self.verify = self.verify.saturating_add(watch.nanos(rt));
-        let watch = Watch::start(rt);
+        self.verify = self.verify.saturating_add(meter.nanos(rt));
+        let meter = Meter::start(rt);
         let are_hashed = are_hashed(nodes);
-        self.hash = self.hash.saturating_add(watch.nanos(rt));
+        self.hash = self.hash.saturating_add(meter.nanos(rt));
         self.keys = self.keys.saturating_add(1);
         self.nodes = self.nodes.saturating_add(nodes.len() as u64);
         answer == Ok(Some(value)) && are_hashed
@@ -97,7 +109,7 @@ impl Proofs {
 
 /// Writes a repository's CAR to memory, and proves and verifies the keys at these places, so many times. `None` where memory
 /// was refused or a proof doesn't show its value.
-pub fn measure<R: Clock>(
+pub fn measure<R: CpuClock>(
     rt: &R,
     alloc: Global,
     core: &Core<Sha256, 2>,
@@ -110,19 +122,20 @@ pub fn measure<R: Clock>(
         car: u128::MAX,
         proofs: Proofs::none(u128::MAX),
     };
+    let nothing = Meter::of_nothing(rt);
     let mut room = Vec::new(alloc);
     for _ in 0..rounds {
         let (bytes, nanos) = written(rt, alloc, core, &mut room)?;
         let proofs = proofs_of(rt, alloc, core, pairs, places)?;
         exported.bytes = bytes;
         exported.car = exported.car.min(nanos);
-        exported.proofs = exported.proofs.quickest(proofs);
+        exported.proofs = exported.proofs.quickest(proofs.without(nothing));
     }
     Some(exported)
 }
 
 /// How many bytes the CAR has, and how long it took to write it to memory, into room that is there from the second round on.
-fn written<R: Clock>(
+fn written<R: CpuClock>(
     rt: &R,
     alloc: Global,
     core: &Core<Sha256, 2>,
@@ -131,9 +144,9 @@ fn written<R: Clock>(
     let mut bytes = mem::replace(room, Vec::new(alloc));
     bytes.clear();
     let mut out = ToMemory::over(bytes);
-    let watch = Watch::start(rt);
+    let meter = Meter::start(rt);
     let answer = car(alloc, core, &mut out);
-    let nanos = watch.nanos(rt);
+    let nanos = meter.nanos(rt);
     *room = out.into_bytes();
     match answer {
         Ok(bytes) => Some((bytes, nanos)),
@@ -142,7 +155,7 @@ fn written<R: Clock>(
 }
 
 /// The proofs of the keys at these places, one after the other.
-fn proofs_of<R: Clock>(
+fn proofs_of<R: CpuClock>(
     rt: &R,
     alloc: Global,
     core: &Core<Sha256, 2>,
@@ -169,14 +182,4 @@ fn bytes_of<'a>(
         blocks.push(node.bytes())?;
     }
     Ok(blocks)
-}
-
-/// Whether these nodes have the CIDs of their bytes.
-fn are_hashed(nodes: &[Arc<Block<Sha256>>]) -> bool {
-    for node in nodes {
-        if Cid::of::<Sha256>(node.bytes()) != node.cid() {
-            return false;
-        }
-    }
-    true
 }

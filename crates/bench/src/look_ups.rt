@@ -1,14 +1,14 @@
 //! Look-ups over the blocks of one tree in memory.
 
-use crate::watch::Watch;
+use crate::watch::Meter;
 use block::Block;
 use cid::{Cid, Sha256};
 use lookups::{BlockMap, get};
 use std::alloc::Global;
 use std::sync::Arc;
-use std::time::Clock;
+use std::time::CpuClock;
 
-/// What look-ups found, and the nanoseconds of the quickest round of them.
+/// What look-ups found, and the nanoseconds of processor time of the quickest round of them.
 #[derive(Clone, Copy, Drop)]
 pub struct LookedUp {
     pub found: u64,
@@ -19,7 +19,7 @@ pub struct LookedUp {
 
 /// Looks up the pairs at these places, so many times, over the nodes of a tree, of which the root is the first. `None` where
 /// there is none or no memory.
-pub fn measure<R: Clock>(
+pub fn measure<R: CpuClock>(
     rt: &R,
     alloc: Global,
     blocks: &[Arc<Block<Sha256>>],
@@ -37,15 +37,17 @@ pub fn measure<R: Clock>(
         least: u128::MAX,
     };
     for _ in 0..rounds {
-        let watch = Watch::start(rt);
+        let meter = Meter::start(rt);
         measured.found = count(&mut map, root, pairs, places);
-        measured.least = measured.least.min(watch.nanos(rt));
+        measured.least = measured.least.min(meter.nanos(rt));
     }
     measured.reads = map.reads() as u64;
     Some(measured)
 }
 
-/// Looks up the pairs at these places, and counts those that have their values.
+/// Looks up the pairs at these places, and counts those that have their values. It is a call of its own, so that its instructions
+/// can be counted.
+#[inline(never)]
 fn count(
     map: &mut BlockMap<'_, Sha256>,
     root: Cid,

@@ -3,12 +3,15 @@
 
 mod blocks;
 mod command;
+mod desks;
 mod differences;
 mod edits;
 mod exports;
+mod hashing;
 mod hosts;
 mod look_ups;
 mod made;
+mod messages;
 mod plans;
 mod queues;
 mod records;
@@ -21,16 +24,17 @@ mod writers;
 use crate::command::Command;
 use crate::edits::{Edits, Turn};
 use crate::exports::Exported;
+use crate::messages::Messages;
 use crate::plans::Plan;
 use crate::repositories::{Measured, Took};
 use crate::versions::Reading;
-use crate::watch::Watch;
+use crate::watch::Meter;
 use crate::writers::Load;
 use std::alloc::{AllocError, Global};
 use std::rt::Files;
 use std::sync::Wait;
 use std::thread::Threads;
-use std::time::Clock;
+use std::time::{Clock, CpuClock};
 use std::{env, io};
 
 const USAGE: &str = "\
@@ -59,6 +63,9 @@ usage: bench store COUNT ROUNDS
        bench export COUNT ROUNDS
          makes a repository of COUNT keys, at most 1,000,000, with records of 288 bytes, writes its CAR to memory, and proves
          10,000 of its keys and verifies the proofs, ROUNDS times
+       bench messages COUNT ROUNDS
+         makes a repository of COUNT keys, at most 1,000,000, with records of 288 bytes, puts a quarter as many more, at most
+         1,000, one a batch, and writes the message of each, checks it and hashes its bytes, ROUNDS times
        bench hosts REPOS WRITERS BATCHES SIZE
          opens a host of REPOS repositories, 1 to 1,024, and WRITERS writers, 1 to 64, each in a thread of its own, which
          put BATCHES batches, at most 1,000,000, of SIZE records of 288 bytes each: one batch after the other goes to the
@@ -100,6 +107,7 @@ fn main(rt: HostRuntime) -> io::Result<()> {
             print_apply(&rt, alloc, Plan::flat(alloc, count), 1, rounds)
         }
         Some(Command::Export { count, rounds }) => print_export(&rt, alloc, count, rounds),
+        Some(Command::Messages { count, rounds }) => print_messages(&rt, alloc, count, rounds),
         Some(Command::Hosts(load)) => print_hosts(&rt, alloc, load),
         Some(Command::Versions(reading)) => print_versions(&rt, alloc, reading),
         None => println!(rt; "{USAGE}"),
@@ -124,9 +132,9 @@ fn print_read(rt: &HostRuntime, rounds: u32) -> io::Result<()> {
     let alloc = rt.alloc();
     for record in &records::RECORDS {
         let bytes = hex::decode(alloc, record.text).unwrap_or(Vec::new(alloc));
-        let watch = Watch::start(rt);
+        let meter = Meter::start(rt);
         let found = records::measure(alloc, &bytes, rounds);
-        let micros = watch.nanos(rt) / 1000;
+        let micros = meter.nanos(rt) / 1000;
         let read = u128::from(found) * bytes.len() as u128;
         println!(rt;
             "{}: {} bytes, {} MB/s",
@@ -145,10 +153,11 @@ fn print_build(rt: &HostRuntime, rounds: u32) -> io::Result<()> {
     let pairs = trees::pairs(alloc, listing.as_bytes())?;
     match trees::measure(rt, alloc, &pairs, rounds) {
         Some(built) => println!(rt;
-            "{} keys, {} nodes, {} microseconds",
+            "{} keys, {} nodes, {} microseconds, {} its hashing alone",
             pairs.len(),
             built.nodes,
-            built.least / 1000
+            built.least / 1000,
+            built.hash / 1000
         ),
         None => println!(rt; "the tree can't be built"),
     }
@@ -210,19 +219,25 @@ fn print_edit(rt: &HostRuntime, count: u32, rounds: u32) -> io::Result<()> {
 fn print_edits(rt: &HostRuntime, edits: &Edits) -> io::Result<()> {
     print_turn(rt, "put", &edits.puts, 1)?;
     print_turn(rt, "delete of what was put", &edits.undone, 1)?;
-    print_turn(rt, "delete of a first key", &edits.deletes, 1)
+    print_turn(rt, "delete of a first key", &edits.deletes, 1)?;
+    match edits.root {
+        Some(root) => println!(rt; "the last root is {root}"),
+        None => Ok(()),
+    }
 }
 
 /// Prints what the edits of one kind did.
 fn print_turn(rt: &HostRuntime, name: &str, turn: &Turn, size: usize) -> io::Result<()> {
     let done = &turn.done;
+    let edits = u128::from(done.edits).max(1);
     println!(rt;
-        "{name}, {size} at once: {} edits, {} blocks read, {} added, {} dropped, {} ns an edit at the least",
+        "{name}, {size} at once: {} edits, {} blocks read, {} added, {} dropped, {} ns an edit at the least, {} its hashing alone",
         done.edits,
         done.reads,
         done.added,
         done.dropped,
-        turn.least / u128::from(done.edits).max(1)
+        turn.least / edits,
+        turn.hash / edits
     )
 }
 
@@ -244,7 +259,7 @@ fn print_notices<R: Threads + Wait + Sync + Clock + Print>(
 }
 
 /// Prints what a write to a repository took at the least, beside an edit of its tree alone, and what memory a record takes.
-fn print_apply<R: Wait + Clock + Files + Print>(
+fn print_apply<R: Wait + CpuClock + Files + Print>(
     rt: &R,
     alloc: Global,
     plan: Result<Plan, AllocError>,
@@ -288,23 +303,19 @@ fn print_applied<R: Print>(
     }
 }
 
-/// Prints the microseconds of a write, and the ratio in hundredths.
+/// Prints the nanoseconds of a write.
 fn print_took<R: Print>(rt: &R, name: &str, took: &Took, writes: u128) -> io::Result<()> {
-    let (applied, alone) = (took.applied / writes.max(1), took.alone / writes.max(1));
-    let ratio = applied.saturating_mul(100) / alone.max(1);
+    let writes = writes.max(1);
     println!(rt;
-        "{name}: {}.{} microseconds a write at the least, {}.{} by edit alone, ratio {}.{:02}",
-        applied / 1000,
-        applied % 1000 / 100,
-        alone / 1000,
-        alone % 1000 / 100,
-        ratio / 100,
-        ratio % 100
+        "{name}: {} ns a write at the least, {} by edit alone, {} its hashing alone",
+        took.applied / writes,
+        took.alone / writes,
+        took.hash / writes
     )
 }
 
 /// Prints what the CAR of a repository took at the least, and the proof of one of its keys.
-fn print_export<R: Wait + Clock + Print>(
+fn print_export<R: Wait + CpuClock + Print>(
     rt: &R,
     alloc: Global,
     count: u32,
@@ -333,6 +344,35 @@ fn print_exported<R: Print>(rt: &R, keys: usize, exported: &Exported) -> io::Res
         proofs.prove / keys,
         proofs.verify / keys,
         proofs.hash / keys
+    )
+}
+
+/// Prints what the messages of batches of one put took at the least.
+fn print_messages<R: Wait + CpuClock + Print>(
+    rt: &R,
+    alloc: Global,
+    count: u32,
+    rounds: u32,
+) -> io::Result<()> {
+    let plan = Plan::with_more(alloc, count, 1_000)?;
+    match repositories::messages(rt, alloc, &plan, rounds) {
+        Some(messages) => print_measured(rt, plan.keys(), &messages),
+        None => println!(rt; "refused"),
+    }
+}
+
+/// Prints what was measured of the messages of a repository with so many keys.
+fn print_measured<R: Print>(rt: &R, keys: usize, measured: &Messages) -> io::Result<()> {
+    let messages = u128::from(measured.messages).max(1);
+    println!(rt;
+        "{keys} keys, {} messages of {} bytes in all, {} taken, {}",
+        measured.messages, measured.bytes, measured.taken, measured.chain
+    )?;
+    println!(rt;
+        "a message: {} ns to write, {} ns to check, {} ns to hash, at the least",
+        measured.write / messages,
+        measured.check / messages,
+        measured.hash / messages
     )
 }
 

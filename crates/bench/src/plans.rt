@@ -25,7 +25,12 @@ pub struct Places {
 impl Plan {
     /// So many keys, and a quarter as many more, at most 10,000, that are put and deleted.
     pub fn usual(alloc: Global, count: u32) -> Result<Plan, AllocError> {
-        let more = (count / 4).min(10_000);
+        Plan::with_more(alloc, count, 10_000)
+    }
+
+    /// So many keys, and a quarter as many more, at most so many, that are put and deleted.
+    pub fn with_more(alloc: Global, count: u32, most: u32) -> Result<Plan, AllocError> {
+        let more = (count / 4).min(most);
         Plan::parted(alloc, count.saturating_add(more), more)
     }
 

@@ -1,124 +1,29 @@
-//! A repository: writes by batches beside edits of its tree alone, and its exports.
+//! A repository: writes by batches beside edits of its tree alone, its exports, and messages of its batches.
 
+use crate::desks::Desk;
 use crate::edits::{Change, Tree};
 use crate::exports::{self, Exported};
+use crate::hashing::Hashed;
+use crate::messages::{self, Messages};
 use crate::plans::{Plan, stamp};
-use crate::watch::Watch;
-use batches::{Stamp, Write};
+use crate::watch::Meter;
+use batches::commit_bytes;
 use cid::{Cid, Sha256};
 use repo::Core;
 use std::alloc::{AllocError, Global};
 use std::fs;
 use std::rt::Files;
 use std::sync::Wait;
-use std::time::Clock;
+use std::time::CpuClock;
 use store::{LockedShards, Shards, TableKey};
 
-/// A batch with its stamp.
-#[derive(Drop)]
-struct Batch {
-    stamp: Stamp,
-    writes: Vec<Write>,
-}
-
-impl Batch {
-    /// The batch with this number, of a change at each of these places.
-    fn new(
-        alloc: Global,
-        plan: &Plan,
-        change: Change,
-        places: &[usize],
-        number: u64,
-    ) -> Result<Batch, AllocError> {
-        let stamp = stamp(alloc, number)?;
-        let writes = plan.writes(alloc, change, places)?;
-        Ok(Batch { stamp, writes })
-    }
-}
-
-/// A repository with its store and the number of its last batch. Whoever opened it ends it.
-#[derive(Drop)]
-struct Desk<'a, 's, R: Wait> {
-    core: &'a mut Core<Sha256, 2>,
-    store: &'a mut LockedShards<'s, R, Sha256>,
-    last: u64,
-}
-
-impl<'a, 's, R: Wait> Desk<'a, 's, R> {
-    /// The next batches of a change at each of these places, so many writes a batch.
-    fn batches(
-        &mut self,
-        alloc: Global,
-        plan: &Plan,
-        change: Change,
-        places: &[usize],
-        size: usize,
-    ) -> Result<Vec<Batch>, AllocError> {
-        let mut batches = Vec::new(alloc);
-        for some in places.chunks(size.max(1)) {
-            self.last = self.last.saturating_add(1);
-            batches.push(Batch::new(alloc, plan, change, some, self.last)?)?;
-        }
-        Ok(batches)
-    }
-
-    /// Applies batches up to one that is refused, and says whether there is none.
-    fn apply_all(&mut self, alloc: Global, batches: &[Batch]) -> bool {
-        for batch in batches {
-            if self
-                .core
-                .apply(alloc, self.store, &batch.stamp, &batch.writes)
-                .is_err()
-            {
-                return false;
-            }
-        }
-        true
-    }
-
-    /// Makes a change at each of these places, a hundred a batch, and says whether all batches were accepted.
-    fn change_all(&mut self, alloc: Global, plan: &Plan, change: Change, places: &[usize]) -> bool {
-        for some in places.chunks(100) {
-            match self.batches(alloc, plan, change, some, 100) {
-                Ok(batches) => {
-                    if !self.apply_all(alloc, &batches) {
-                        return false;
-                    }
-                }
-                Err(_) => return false,
-            }
-        }
-        true
-    }
-
-    /// Makes the repository of a plan by one batch, in the order of the keys, and says whether it was accepted. So its blocks lie
-    /// in memory as those of a tree that is built from a sorted list.
-    fn fill_in_order(&mut self, alloc: Global, plan: &Plan) -> bool {
-        match self.batch_in_order(alloc, plan) {
-            Ok(batches) => self.apply_all(alloc, &batches),
-            Err(_) => false,
-        }
-    }
-
-    /// One batch of puts of the keys that are there at first, in their order.
-    fn batch_in_order(&mut self, alloc: Global, plan: &Plan) -> Result<Vec<Batch>, AllocError> {
-        let mut places = Vec::from_slice(alloc, &plan.places.first)?;
-        places.sort()?;
-        self.batches(alloc, plan, Change::Put, &places, places.len())
-    }
-
-    /// Makes the repository of a plan, and says whether all was accepted.
-    fn fill(&mut self, alloc: Global, plan: &Plan) -> bool {
-        self.change_all(alloc, plan, Change::Put, &plan.places.first)
-            && self.change_all(alloc, plan, Change::Delete, &plan.places.gone)
-    }
-}
-
-/// Nanoseconds of the quickest round, by edits of the tree alone and by batches that a repository applies.
+/// Nanoseconds of processor time of the quickest round: by edits of the tree alone, by batches that a repository applies, and by
+/// hashing alone what these hash.
 #[derive(Clone, Copy, Drop)]
 pub struct Took {
     pub alone: u128,
     pub applied: u128,
+    pub hash: u128,
 }
 
 impl Took {
@@ -126,8 +31,16 @@ impl Took {
         Took {
             alone: u128::MAX,
             applied: u128::MAX,
+            hash: u128::MAX,
         }
     }
+}
+
+/// What the puts of a round hash, and its deletes.
+#[derive(Drop)]
+struct Hashing {
+    puts: Hashed,
+    deletes: Hashed,
 }
 
 /// What was measured of a repository.
@@ -147,7 +60,7 @@ pub struct Measured {
 
 /// Makes the repository of a plan in a store of sixteen shards, and then so many times puts its new keys and deletes them,
 /// `size` a batch, in turns with the same edits of the tree alone. `None` where a batch was refused or the roots differ.
-pub fn measure<R: Wait + Clock + Files>(
+pub fn measure<R: Wait + CpuClock + Files>(
     rt: &R,
     alloc: Global,
     plan: &Plan,
@@ -174,7 +87,7 @@ pub fn measure<R: Wait + Clock + Files>(
 
 /// Makes the repository of a plan in a store of sixteen shards, and then so many times writes its CAR, and proves and verifies
 /// its first 10,000 keys. `None` where a batch was refused or a proof was wrong.
-pub fn export<R: Wait + Clock>(
+pub fn export<R: Wait + CpuClock>(
     rt: &R,
     alloc: Global,
     plan: &Plan,
@@ -198,7 +111,7 @@ pub fn export<R: Wait + Clock>(
 }
 
 /// The same for a repository without writes.
-fn export_at<R: Wait + Clock>(
+fn export_at<R: Wait + CpuClock>(
     rt: &R,
     alloc: Global,
     plan: &Plan,
@@ -213,8 +126,37 @@ fn export_at<R: Wait + Clock>(
     exports::measure(rt, alloc, desk.core, &plan.pairs, places, rounds)
 }
 
+/// Makes the repository of a plan in a store of sixteen shards, and then so many times puts its new keys, one a batch, and writes
+/// and checks the message of each. `None` where a batch was refused or there is no message of it.
+pub fn messages<R: Wait + CpuClock>(
+    rt: &R,
+    alloc: Global,
+    plan: &Plan,
+    rounds: u32,
+) -> Option<Messages> {
+    let shards = Shards::open(alloc, 1_048_576, TableKey::known());
+    let mut store = LockedShards::new(rt, &shards);
+    match Core::open(alloc, &mut store, 0, 1_048_576) {
+        Ok(mut core) => {
+            let mut desk = Desk {
+                core: &mut core,
+                store: &mut store,
+                last: 0,
+            };
+            let measured = if desk.fill(alloc, plan) {
+                messages::measure(rt, alloc, plan, &mut desk, rounds)
+            } else {
+                None
+            };
+            core.end(&mut store);
+            measured
+        }
+        Err(_) => None,
+    }
+}
+
 /// The same for a repository without writes and the tree alone.
-fn measure_at<R: Wait + Clock + Files>(
+fn measure_at<R: Wait + CpuClock + Files>(
     rt: &R,
     alloc: Global,
     plan: &Plan,
@@ -232,6 +174,7 @@ fn measure_at<R: Wait + Clock + Files>(
         return None;
     }
     let after = resident(rt, alloc);
+    let hashing = hashing_of(alloc, plan, tree, size)?;
     let (mut puts, mut deletes) = (Took::none(), Took::none());
     let mut added = 0;
     for _ in 0..rounds {
@@ -246,6 +189,8 @@ fn measure_at<R: Wait + Clock + Files>(
             size,
             &mut deletes,
         )?;
+        puts.hash = puts.hash.min(hashing.puts.nanos(rt));
+        deletes.hash = deletes.hash.min(hashing.deletes.nanos(rt));
     }
     let left = tree
         .put_batches(alloc, &plan.pairs, &plan.places.new, size)
@@ -260,8 +205,48 @@ fn measure_at<R: Wait + Clock + Files>(
     })
 }
 
+/// What puts of the new keys of a plan and their deletes hash, so many a batch. The tree is the same again then.
+fn hashing_of(alloc: Global, plan: &Plan, tree: &mut Tree, size: usize) -> Option<Hashing> {
+    let puts = hashed(alloc, plan, Change::Put, tree, size)?;
+    let deletes = hashed(alloc, plan, Change::Delete, tree, size)?;
+    Some(Hashing { puts, deletes })
+}
+
+/// What a change at each new place of a plan hashes, so many a batch: keys, nodes, records and commits.
+fn hashed(
+    alloc: Global,
+    plan: &Plan,
+    change: Change,
+    tree: &mut Tree,
+    size: usize,
+) -> Option<Hashed> {
+    let mut hashed = tree.hashed(alloc, change, plan, &plan.places.new, size)?;
+    for some in plan.places.new.chunks(size.max(1)) {
+        push_rest(alloc, plan, change, some, tree.root, &mut hashed).ok()?;
+    }
+    Some(hashed)
+}
+
+/// Adds the records of the changes at these places, if they have any, and a commit.
+fn push_rest(
+    alloc: Global,
+    plan: &Plan,
+    change: Change,
+    places: &[usize],
+    root: Cid,
+    hashed: &mut Hashed,
+) -> Result<(), AllocError> {
+    for write in &plan.writes(alloc, change, places)? {
+        if let Some(record) = write.record() {
+            hashed.push(alloc, record)?;
+        }
+    }
+    let stamp = stamp(alloc, 0)?;
+    hashed.push(alloc, &commit_bytes(alloc, &stamp, root)?)
+}
+
 /// Makes a change at each new place of a plan, to the tree alone and then by batches, and answers how many nodes it adds.
-fn turn<R: Wait + Clock>(
+fn turn<R: Wait + CpuClock>(
     rt: &R,
     alloc: Global,
     plan: &Plan,
@@ -274,12 +259,12 @@ fn turn<R: Wait + Clock>(
     let Ok(batches) = desk.batches(alloc, plan, change, &plan.places.new, size) else {
         return None;
     };
-    let watch = Watch::start(rt);
+    let meter = Meter::start(rt);
     let done = tree.change_all(alloc, change, &plan.pairs, &plan.places.new);
-    took.alone = took.alone.min(watch.nanos(rt));
-    let watch = Watch::start(rt);
+    took.alone = took.alone.min(meter.nanos(rt));
+    let meter = Meter::start(rt);
     let are_accepted = desk.apply_all(alloc, &batches);
-    took.applied = took.applied.min(watch.nanos(rt));
+    took.applied = took.applied.min(meter.nanos(rt));
     match done {
         Ok(done) if are_accepted && desk.core.root() == tree.root => Some(done.added),
         _ => None,

@@ -1,13 +1,14 @@
 //! Trees from listings of keys and CIDs.
 
-use crate::watch::Watch;
+use crate::hashing::Hashed;
+use crate::watch::Meter;
 use block::Block;
 use bstr::ByteSlice;
 use cid::{Cid, Sha256};
 use scratch::{build, is_ascending};
 use std::alloc::{AllocError, Global};
 use std::sync::Arc;
-use std::time::Clock;
+use std::time::CpuClock;
 
 /// The pairs of the lines `KEY CID` of a listing, in the order of their keys; other lines are left out.
 pub fn pairs(alloc: Global, listing: &[u8]) -> Result<Vec<(Vec<u8>, Cid)>, AllocError> {
@@ -57,12 +58,14 @@ fn pair(line: &[u8]) -> Option<(&[u8], Cid)> {
 #[derive(Clone, Copy, Drop)]
 pub struct Built {
     pub nodes: usize,
-    /// Nanoseconds, of the quickest time.
+    /// Nanoseconds of processor time, of the quickest time.
     pub least: u128,
+    /// The same of hashing its keys and nodes alone.
+    pub hash: u128,
 }
 
 /// Builds the tree of these pairs so many times; `None` where they don't ascend, two nodes clash or memory is refused.
-pub fn measure<R: Clock>(
+pub fn measure<R: CpuClock>(
     rt: &R,
     alloc: Global,
     pairs: &[(Vec<u8>, Cid)],
@@ -74,16 +77,29 @@ pub fn measure<R: Clock>(
     let mut measured = Built {
         nodes: 0,
         least: u128::MAX,
+        hash: u128::MAX,
     };
+    let hashed = hashed(alloc, pairs)?;
     for _ in 0..rounds {
-        let watch = Watch::start(rt);
+        let meter = Meter::start(rt);
         let Ok(built) = build::<Sha256, 2, _, _>(alloc, pairs) else {
             return None;
         };
-        measured.least = measured.least.min(watch.nanos(rt));
+        measured.least = measured.least.min(meter.nanos(rt));
         measured.nodes = built.blocks.len();
+        measured.hash = measured.hash.min(hashed.nanos(rt));
     }
     Some(measured)
+}
+
+/// What a build of the tree of these pairs hashes: its keys and its nodes.
+fn hashed(alloc: Global, pairs: &[(Vec<u8>, Cid)]) -> Option<Hashed> {
+    let mut hashed = Hashed::nothing(alloc);
+    for (key, _) in pairs {
+        hashed.push(alloc, key).ok()?;
+    }
+    hashed.push_all(&nodes(alloc, pairs)?).ok()?;
+    Some(hashed)
 }
 
 /// The nodes of the tree of these pairs, or `None` where there is none or no memory for it.

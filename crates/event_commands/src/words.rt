@@ -141,7 +141,7 @@ pub fn command_of<'a>(name: &str, words: &ArgMatches<'a>) -> Option<EventCommand
 
 /// What the words tell, with this revision before.
 fn event_words<'a>(words: &ArgMatches<'a>, since: Option<&'a str>) -> EventWords<'a>
-    ensures { AreEventWords (rows_of (found_of words.now)) (option_map (λ s. s.now) since) result }
+    ensures { AreEventWords (rows_of (found_of words.now)) (option_map (λ s. s.now) since.entry) result }
 {
     EventWords {
         did: word_or("", words, "did"),
@@ -191,7 +191,7 @@ fn sync_event_words<'a>(alloc: Global) -> Result<Command<'a>, AllocError>
 
 /// The command that writes a message, with the words that both have.
 fn told_words<'a>(alloc: Global, subject: Subject) -> Result<Command<'a>, AllocError>
-    ensures reads { IfOk result (λ r. (app_of r ≡ alone (told_shape subject))
+    ensures { IfOk result (λ r. (app_of r ≡ alone (told_shape subject))
         × ((fields_of r).has_globals ≡ false)) }
 {
     bare_event(alloc, subject)

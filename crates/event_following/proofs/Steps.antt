@@ -1,5 +1,5 @@
 -- What is done where a message is followed.
-use Rattle.std.proofs.Common.{◌≡◌, ℕ, Bool, true, List, [], ◌∷◌, map, refl, sym, ap, subst, ◌∙◌, Some, None, Result, Ok, IfOk, IfErr}
+use Rattle.std.proofs.Common.{◌≡◌, ◌==◌, ℕ, Bool, true, false, List, [], ◌∷◌, length, eqb-true, arith, map, refl, sym, ap, subst, ◌∙◌, Some, None, Result, Ok, IfOk, IfErr}
 use Rattle.std.specs.Str.{bytes_eq}
 use Rattle.std.proofs.lemmas.Slice.Eq.{bytes_eq-Decides}
 use Rattle.spec.specs.Cid.{IsDigest}
@@ -58,6 +58,22 @@ pub refused-of : {T D A : Type 0} (digest : List ℕ → List ℕ) (bits : ℕ) 
 refused-of digest bits old made told e lent ss same cs full fuller r h =
     subst (λ (st : Stamp). IfErr r (IsRefused digest bits old st (blocks_of (sections_of ss)) cs full fuller)) e
     (subst (λ (bs : List (List ℕ)). IfErr r (IsRefused digest bits old made bs cs full fuller)) (lent-blocks lent ss same) h)
+
+-- ---- whether there are operations
+
+by-length : (ops : List KeyChange) → (length ops == 0) ≡ true → ops ≡ []
+by-length [] h = refl
+by-length (c ∷ cs) h = let e : length (c ∷ cs) ≡ 0 = eqb-true (length (c ∷ cs)) 0 h in absurd (omega arith)
+
+pub none-told : (ops lent : List KeyChange) (t : Bool) → t ≡ (length lent == 0) → lent ≡ ops → t ≡ true → ops ≡ []
+none-told ops lent t e same h =
+    by-length ops (ap (λ (us : List KeyChange). length us == 0) (sym same) ∙ sym e ∙ h)
+
+pub some-told : (ops lent : List KeyChange) (t : Bool) → t ≡ (length lent == 0) → lent ≡ ops → t ≡ false → ¬ (ops ≡ [])
+some-told ops lent t e same h none =
+    let empty : (length lent == 0) ≡ true = ap (λ (us : List KeyChange). length us == 0) (same ∙ none) in
+    let both : true ≡ false = sym empty ∙ sym e ∙ h in
+    absurd cc
 
 -- ---- where the operations lead
 

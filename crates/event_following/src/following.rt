@@ -97,7 +97,7 @@ pub fn check_and_apply<
     if !leads {
         return Err(FollowingFault::OtherRoot);
     }
-    if checked.event.ops.is_empty() {
+    if checked.event.ops.as_slice().is_empty() {
         return Ok(Followed {
             checked,
             applied: None,

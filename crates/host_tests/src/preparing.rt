@@ -245,15 +245,21 @@ fn what_is_refused_is_not_told(rt: HostRuntime) {
     assert!(rt; is_refused(&rt, rt.alloc()));
 }
 
-/// Whether a fault is a want of memory.
-fn is_want<'h>(fault: &PrepareFault<Toy, &'h Heap>) -> bool {
-    match fault {
-        PrepareFault::Refused(_, fault) => why_of(fault) == Why::NoMemory,
-        PrepareFault::NoSuchRepository => false,
+/// Whether a batch is told, or isn't for want of memory; `None` where another fault is told.
+fn is_told<'h>(
+    told: Result<PreparedBatch<Toy, 2, &'h Heap>, PrepareFault<Toy, &'h Heap>>,
+) -> Option<bool> {
+    match told {
+        Ok(_) => Some(true),
+        Err(PrepareFault::Refused(_, fault)) => match why_of(&fault) {
+            Why::NoMemory => Some(false),
+            _ => None,
+        },
+        Err(PrepareFault::NoSuchRepository) => None,
     }
 }
 
-/// Tells a batch where this request for memory is refused: whether it's told, or `None` where another fault is.
+/// Tells a batch where this request for memory is refused.
 fn told_without<'h, R: Wait>(
     rt: &R,
     heap: &'h Heap,
@@ -262,13 +268,9 @@ fn told_without<'h, R: Wait>(
     request: u64,
 ) -> Option<bool> {
     heap.refuse(request);
-    let told = prepare(rt, heap, host, 0, &batch.stamp, &batch.writes);
+    let told = is_told(prepare(rt, heap, host, 0, &batch.stamp, &batch.writes));
     heap.refuse(0);
-    match told {
-        Ok(_) => Some(true),
-        Err(fault) if is_want(&fault) => Some(false),
-        Err(_) => None,
-    }
+    told
 }
 
 /// How many requests for memory a batch that is told makes, where each that is refused is told as that, and nothing stays.

@@ -74,6 +74,7 @@ fn add_tree(nodes: &mut Nodes, pairs: &Pairs) -> Cid {
     root.expect("a root")
 }
 
+#[inline(never)]
 fn compare<'a>(nodes: &'a Nodes, old: &'a Cid, new: &'a Cid) -> Difference<'a> {
     let (mut ours, mut theirs) = (Cursor::new(nodes, old), Cursor::new(nodes, new));
     let mut changes = Vec::new();

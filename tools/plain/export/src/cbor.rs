@@ -68,7 +68,7 @@ impl<'f> Cursor<'f> {
         }
     }
 
-    fn value(&mut self, level: usize) -> Result<(), Fault> {
+    pub fn value(&mut self, level: usize) -> Result<(), Fault> {
         let (kind, number) = self.head()?;
         match kind {
             0 | 1 if number >= 1 << 63 => Err("IntegerRange"),

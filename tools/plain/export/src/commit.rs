@@ -38,7 +38,7 @@ fn parts(block: &[u8]) -> Option<Commit<'_>> {
     cursor.0.is_empty().then_some(Commit { did, rev, root })
 }
 
-fn is_did(did: &[u8]) -> bool {
+pub fn is_did(did: &[u8]) -> bool {
     let Some(rest) = did.strip_prefix(b"did:").filter(|_| did.len() <= 2048) else {
         return false;
     };
@@ -51,7 +51,7 @@ fn is_did(did: &[u8]) -> bool {
     !method.is_empty() && method.iter().all(u8::is_ascii_lowercase) && id.iter().all(is_id) && ends_well
 }
 
-fn is_revision(rev: &[u8]) -> bool {
+pub fn is_revision(rev: &[u8]) -> bool {
     let is_letter = |c: &u8| matches!(c, b'2'..=b'7' | b'a'..=b'z');
     rev.len() == 13 && rev.iter().all(is_letter) && rev[0] <= b'j'
 }

@@ -4,7 +4,7 @@ use denote.Param.{layout, number, param}
 use Rattle.repo.specs.contracts.cores.Core as core
 use Rattle.event_format.specs.Views.{event_of}
 use Rattle.commit_events.specs.Views.{checked_of}
-use Rattle.event_following.proofs.Steps.{followed-is, leads-so, lent-keyed, lent-ops, read-of}
+use Rattle.event_following.proofs.Steps.{followed-empty, followed-is, leads-so, lent-keyed, lent-ops, none-told, read-of, some-told}
 use Rattle.event_following.proofs.Unfollowed.{has-records-lent, other-root, refused-counted, refused-lent, unread-counted, unread-is}
 use Rattle.event_following.proofs.following.check_and_apply.Goals as goal
 
@@ -81,6 +81,7 @@ returns-clause-fault g c =
     let leads = leads-so digest g.row.B old message x c.deref-2.result.now same c.root_named.result c.root_named.ensures
     c.in_ok-leads.leads c.in_ok-leads.ensures c.if-not-leads.false in
     refused-lent digest g.row.B old message (g.S.BlockStore.fulls c.args.store.now) (g.S.BlockStore.fulls c.taken.new.store) x read leads
+    (some-told x.event.ops c.as_slice.result.now c.is_empty.result c.is_empty.ensures c.as_slice.ensures.value c.if-is_empty.false)
     c.deref-3.result.now again c.deref-in-Err-taken.result.now (c.deref-in-Err-taken.ensures.value ∙ c.in_ok-sorted.ensures)
     c.in-Err-taken.fault c.refused.result c.refused.ensures c.in-Err-taken.ensures.fault
 
@@ -88,3 +89,17 @@ pub returns-clause-counted : goal.returns-clause-counted
 returns-clause-counted g c =
     refused-counted (g.S.BlockStore.fulls c.args.store.now) (g.S.BlockStore.fulls c.taken.new.store) c.deref-in-Err-taken.result.now
     c.in-Err-taken.fault c.refused.result c.in-Err-taken.ensures.counted c.refused.ensures
+
+pub returns-then-is_empty-clause-followed : goal.returns-then-is_empty-clause-followed
+returns-then-is_empty-clause-followed g c =
+    let digest = g.D.Digest.digest_of in
+    let old = c.args.core.now in
+    let message = c.args.message.now in
+    let x = checked_of c.in-Ok.checked in
+    let read = read-of digest g.row.B old message x c.root.result c.root.ensures.value c.in-Ok.ensures.read in
+    let same = lent-ops x.event.ops c.in_ok-sorted.sorted.items c.deref.result.now c.in_ok-changes.changes.items c.deref-2.result.now
+    c.in_ok-sorted.ensures c.deref.ensures.value c.in_ok-changes.ensures c.deref-2.ensures.value in
+    let leads = leads-so digest g.row.B old message x c.deref-2.result.now same c.root_named.result c.root_named.ensures
+    c.in_ok-leads.leads c.in_ok-leads.ensures c.if-not-leads.false in
+    followed-empty digest g.row.B old message x read leads
+    (none-told x.event.ops c.as_slice.result.now c.is_empty.result c.is_empty.ensures c.as_slice.ensures.value c.if-is_empty.true)
