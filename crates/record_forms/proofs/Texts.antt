@@ -6,7 +6,8 @@ use Rattle.std.proofs.lemmas.Str.{is_utf8-from_IsUtf8}
 use Rattle.spec.specs.DagCbor.{Value, spelling}
 use Rattle.record_json.specs.Reading.{Kind, NotJson, value_of_json}
 use Rattle.record_json.specs.Puts.{IsFault}
-use Rattle.record_forms.specs.Records.{OfJson, spelled, value_of_json_text}
+use Rattle.record_json.specs.Texts.{value_of_json_text}
+use Rattle.record_forms.specs.Records.{OfJson, spelled}
 
 -- a text that is UTF-8 is read as JSON
 as-json : (text word : List ℕ) → text ≡ word → IsUtf8 word → value_of_json_text word ≡ value_of_json text

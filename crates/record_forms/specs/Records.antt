@@ -1,11 +1,11 @@
 -- Records as words of lines: in hexadecimal, or as JSON (the first is a choice of this project; AT Protocol data model).
 use Rattle.std.specs.Prelude.{ℕ, List, [], ◌∷◌, Option, Some, None, Result, Ok, Err, if◌then◌else◌, unwrap_or}
-use Rattle.std.specs.Str.{is_utf8}
 use Rattle.hex.specs.Hex.{encode_lower}
 use Rattle.spec.specs.DagCbor.{Value, read, spelling}
 use Rattle.console.specs.Lines.{bytes_of_hex}
 use Rattle.record_json.specs.Form.{has_form, json_of}
-use Rattle.record_json.specs.Reading.{Fault, NotJson, value_of_json}
+use Rattle.record_json.specs.Reading.{Fault}
+use Rattle.record_json.specs.Texts.{value_of_json_text}
 use Rattle.record_forms.specs.declared.form.Form.{Form}
 use Rattle.record_forms.specs.declared.form.Form.TheVariants as forms
 
@@ -23,11 +23,6 @@ or_bad_word (Some bytes) = Ok bytes
 -- the bytes of a word in hexadecimal; an empty word has none
 abbrev pub record_of_hex : List ℕ → Result (List ℕ) WordFault
 record_of_hex word = or_bad_word (bytes_of_hex word)
-
--- JSON is UTF-8 (RFC 8259, section 8.1)
-abbrev pub value_of_json_text : List ℕ → Result Value Fault
-value_of_json_text text =
-    if is_utf8 text then value_of_json text else Err (record { kind = NotJson; path = [] })
 
 -- the bytes of what was read
 abbrev pub spelled : Result Value Fault → Result (List ℕ) WordFault

@@ -1,7 +1,8 @@
 //! From a word to a record.
 ghost use Rattle.std.specs.Prelude.{◌≡◌, true, is_some, string_bytes, IfOk, OnOk};
 ghost use Rattle.record_json.specs.Kinds.{kind_of};
-ghost use Rattle.record_forms.specs.Records.{record_of_hex as record_of_hex_word, record_of_json as record_of_json_word, record_of_word as record_of_a_word, spelled, value_of_json_text, OfJson};
+ghost use Rattle.record_json.specs.Texts.{value_of_json_text};
+ghost use Rattle.record_forms.specs.Records.{record_of_hex as record_of_hex_word, record_of_json as record_of_json_word, record_of_word as record_of_a_word, spelled, OfJson};
 ghost use Rattle.record_forms.specs.Views.{json_fault_of, record_read, word_fault_of};
 
 use crate::fault::WordFault;

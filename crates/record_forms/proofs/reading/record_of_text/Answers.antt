@@ -1,6 +1,7 @@
 use Rattle.std.proofs.Common.{◌≡◌, false, subst, sym}
 use Rattle.std.specs.Prelude.{Err, string_bytes}
-use Rattle.record_forms.specs.Records.{spelled, value_of_json_text}
+use Rattle.record_json.specs.Texts.{value_of_json_text}
+use Rattle.record_forms.specs.Records.{spelled}
 use Rattle.std.specs.Str.{is_utf8}
 use Rattle.std.proofs.lemmas.Str.{IsUtf8-from_is_utf8}
 use Rattle.std.proofs.lemmas.Bool.{false_from_ne_true}
