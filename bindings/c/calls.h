@@ -8,6 +8,9 @@
 static tizulgech_repository repository, empty;
 static uint8_t root[36], cid[36], out[8192], node[4096], proof[4096], file[8192];
 static size_t node_end, place, size, file_end;
+/* The message of a batch on the first one, made on a third repository that is let go. */
+static uint8_t message[4096];
+static size_t message_end;
 static const size_t key_ends[] = {7, 14}, record_ends[] = {1, 2};
 
 static size_t put(uint8_t *to, const void *from, size_t count) {
@@ -32,13 +35,26 @@ static int is_file_made(void) {
     file_end += put(file + file_end, behind, (size_t)(car + size - behind));
     return tizulgech_check_car(file, file_end, &place, out, sizeof out, &size) == TIZULGECH_DONE;
 }
-/* The repositories, the node of the first one's tree, and its file. */
-static int is_begun(void) {
+/* A repository of three records. */
+static int is_filled(tizulgech_repository *it) {
     static const char *keys[] = {"a.b.c/d", "a.b.c/e", "a.b.c/f"};
-    if (tizulgech_open(100, &repository) || tizulgech_open(1, &empty)) return 0;
+    if (tizulgech_open(100, it)) return 0;
     for (int i = 0; i < 3; i++)
-        if (tizulgech_stage(&repository, 0, TEXT(keys[i]), TEXT("\xa1\x61k\x01"))) return 0;
-    if (tizulgech_apply(&repository, TEXT("did:web:a.b"), TEXT("3jzfcijpj2z2a"), &place, root, 36, cid, 36, cid, 36)) return 0;
+        if (tizulgech_stage(it, 0, TEXT(keys[i]), TEXT("\xa1\x61k\x01"))) return 0;
+    return tizulgech_apply(it, TEXT("did:web:a.b"), TEXT("3jzfcijpj2z2a"), &place, root, 36, cid, 36, cid, 36) == TIZULGECH_DONE;
+}
+static int is_told(void) {
+    tizulgech_repository third = {0};
+    int is_done = is_filled(&third) && !tizulgech_stage(&third, 3, TEXT("a.b.c/d"), NULL, 0)
+        && !tizulgech_apply_signed(&third, root, 36, TEXT("did:web:a.b"), TEXT("3jzfcijpj2z2b"), TEXT("sig"), 7, TEXT("2026-11-30T12:00:00Z"), NULL, 0, &place,
+                                   message, sizeof message, &message_end);
+    tizulgech_close(&third);
+    return is_done;
+}
+
+/* The repositories, the node of the first one's tree, and the message. */
+static int is_begun(void) {
+    if (!is_told() || !is_filled(&repository) || tizulgech_open(1, &empty)) return 0;
     if (tizulgech_prove(&repository, TEXT("a.b.c/d"), proof, sizeof proof, &size)) return 0;
     node_end = size - 8;
     memcpy(node, proof + 8, node_end);
@@ -128,6 +144,23 @@ static int of_prove_inversion(void) {
     tizulgech_cid(TEXT("\xa1\x61k\x01"), after, 36);
     return tizulgech_prove_inversion(&repository, TEXT("a.b.c/d"), &end, 1, before, 36, after, 36, &place, out, sizeof out, &size);
 }
+#define STAMP TEXT("did:web:a.b"), TEXT("3jzfcijpj2z2b")
+static int of_signed(void) { return tizulgech_signed_commit(STAMP, root, 36, TEXT("sig"), out, sizeof out, &size); }
+static int of_read(void) {
+    uint8_t commit[256];
+    int number = tizulgech_signed_commit(STAMP, root, 36, TEXT("sig"), commit, sizeof commit, &size);
+    return number ? number : tizulgech_read_commit(commit, size, out, sizeof out, &size);
+}
+static int of_file_head(void) { return tizulgech_file_head(root, 36, out, sizeof out, &size); }
+static int of_file_section(void) { return tizulgech_file_section(root, 36, node, node_end, out, sizeof out, &size); }
+static int of_preview(void) { return tizulgech_preview(&repository, STAMP, &place, out, sizeof out, &size); }
+/* The room is too small, so that the message is made, and the batch isn't accepted. */
+static int of_apply_signed(void) {
+    int number = tizulgech_apply_signed(&repository, root, 36, STAMP, TEXT("sig"), 7, TEXT("2026-11-30T12:00:00Z"), NULL, 0, &place, out, 9, &size);
+    return number == TIZULGECH_SMALL ? 0 : number;
+}
+static int of_check(void) { return tizulgech_check_commit(root, 36, message, message_end, &place, cid, 36, out, sizeof out, &size); }
+
 static int of_prove(void) { return tizulgech_prove(&repository, TEXT("a.b.c/d"), out, sizeof out, &size); }
 
 static int of_node_entries(void) { return tizulgech_node_entries(node, node_end, out, sizeof out, &size); }
@@ -174,12 +207,14 @@ static int of_values(void) {
         || tizulgech_layer(TEXT("blue")) != 1 || !tizulgech_is_key(TEXT("blue")) || tizulgech_is_repository_key(TEXT("blue"))
         || !tizulgech_is_did(TEXT("did:web:a.b")) || tizulgech_is_tid(TEXT("1"))
         || tizulgech_step(node, node_end, TEXT("a.b.c/e"), cid, 36)
+        || tizulgech_next_tid(NULL, 0, 1, 1, out, sizeof out, &size) || size != 13
         || tizulgech_stamp_fault(NULL, 0, TEXT("did:web:a.b"), TEXT("1")) != TIZULGECH_BAD_REV;
 }
 static int of_reading(void) {
     uint64_t number = 0;
     return tizulgech_get(&repository, TEXT("a.b.c/d"), out, sizeof out, &size) || tizulgech_root(&repository, cid, 36) || memcmp(cid, root, 36)
-        || tizulgech_commit(&repository, cid, 36) || tizulgech_number(&repository, &number) || number != 3;
+        || tizulgech_commit(&repository, cid, 36) || tizulgech_number(&repository, &number) || number != 3
+        || tizulgech_rev(&repository, out, sizeof out, &size) || size != 13;
 }
 
 /* The calls, how many of the library's calls each is, and whether it takes memory. */
@@ -192,9 +227,11 @@ static const struct {
     {"write_fault", of_write, 1, 1}, {"below", of_below, 1, 1}, {"links", of_links, 1, 1}, {"verify_change", of_change, 3, 1}, {"verify_inversion", of_inversion, 3, 1}, {"tree_root", of_root_of_tree, 1, 1}, {"listing_car", of_listing, 1, 1}, {"open", of_open, 2, 1}, {"stage", of_stage, 2, 1},
     {"list", of_list, 1, 1}, {"car", of_car, 1, 1}, {"car_length", of_length, 1, 1}, {"car_part", of_part, 1, 1}, {"prove", of_prove, 1, 1},
     {"entries", of_entries, 1, 1}, {"car_head", of_head, 1, 1}, {"car_section", of_section, 1, 1}, {"prove_change", of_prove_change, 1, 1}, {"prove_inversion", of_prove_inversion, 2, 1},
+    {"signed_commit", of_signed, 1, 1}, {"read_commit", of_read, 2, 1}, {"file_head", of_file_head, 1, 1}, {"file_section", of_file_section, 1, 1},
+    {"preview", of_preview, 1, 1}, {"apply_signed", of_apply_signed, 1, 1}, {"check_commit", of_check, 1, 1},
     {"node_entries", of_node_entries, 1, 1}, {"tree_prove_change", of_tree_prove_change, 1, 1}, {"difference", of_difference, 2, 1}, {"missing", of_missing, 2, 1},
     {"record_json", of_record_json, 1, 1}, {"json_record", of_json_record, 1, 1}, {"json_record of a fault", of_faulty_json, 1, 1},
     {"link_text", of_link_text, 1, 1}, {"link_from_text", of_link_from_text, 2, 1}, {"check_car", of_check_car, 1, 1}, {"open_car", of_open_car, 3, 1},
-    {"those of values", of_values, 11, 0}, {"those of reading", of_reading, 4, 0},
+    {"those of values", of_values, 12, 0}, {"those of reading", of_reading, 5, 0},
 };
 enum { CALLS = sizeof calls / sizeof *calls };

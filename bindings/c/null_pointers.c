@@ -30,6 +30,21 @@ static int of_values(void) {
         && tizulgech_stamp_fault(NULL, 0, NULL, 0, REV) == TIZULGECH_BAD_DID && tizulgech_stamp_fault(NULL, 0, DID, NULL, 0) == TIZULGECH_BAD_REV;
 }
 
+static int of_commits(void) {
+    uint8_t root[36], cid[36], commit[256];
+    size_t place, size;
+    tizulgech_cid(NODE, root, 36);
+    return tizulgech_signed_commit(NULL, 0, NULL, 0, root, 36, NULL, 0, commit, sizeof commit, &size) == TIZULGECH_DONE
+        && tizulgech_read_commit(commit, size, NULL, 0, &size) == TIZULGECH_COMMIT_DID && tizulgech_read_commit(NULL, 0, NULL, 0, &size) == TIZULGECH_NOT_A_COMMIT
+        && tizulgech_signed_commit(DID, REV, NULL, 0, NULL, 0, NULL, 0, &size) == TIZULGECH_BAD
+        && tizulgech_file_head(root, 36, NULL, 0, &size) == TIZULGECH_SMALL && tizulgech_file_head(NULL, 0, NULL, 0, &size) == TIZULGECH_BAD
+        && tizulgech_file_section(root, 36, NULL, 0, commit, sizeof commit, &size) == TIZULGECH_DONE && size == 37
+        && tizulgech_file_section(NULL, 0, NULL, 0, NULL, 0, &size) == TIZULGECH_BAD
+        && tizulgech_next_tid(NULL, 0, 0, 0, NULL, 0, &size) == TIZULGECH_SMALL && size == 13
+        && tizulgech_check_commit(root, 36, NULL, 0, &place, cid, 36, NULL, 0, &size) == TIZULGECH_NOT_A_MESSAGE
+        && tizulgech_check_commit(NULL, 0, NULL, 0, &place, cid, 36, NULL, 0, &size) == TIZULGECH_BAD;
+}
+
 static int of_trees(void) {
     uint8_t root[36], cid[36];
     size_t end = 7, size;
@@ -65,11 +80,15 @@ static int of_repositories(void) {
     tizulgech_repository repository = {false, NULL};
     uint8_t root[36], cid[36];
     size_t place, size;
-    int well = tizulgech_open(10, &repository) == TIZULGECH_DONE && tizulgech_stage(&repository, 0, NULL, 0, NULL, 0) == TIZULGECH_DONE
+    int well = tizulgech_open(10, &repository) == TIZULGECH_DONE && tizulgech_rev(&repository, NULL, 0, &size) == TIZULGECH_NONE
+        && tizulgech_preview(&repository, NULL, 0, NULL, 0, &place, NULL, 0, &size) == TIZULGECH_EMPTY_BATCH
+        && tizulgech_apply_signed(&repository, NULL, 0, NULL, 0, NULL, 0, NULL, 0, 0, NULL, 0, NULL, 0, &place, NULL, 0, &size) == TIZULGECH_BAD
+        && tizulgech_stage(&repository, 0, NULL, 0, NULL, 0) == TIZULGECH_DONE
         && tizulgech_apply(&repository, NULL, 0, NULL, 0, &place, root, 36, root, 36, cid, 36) == TIZULGECH_BAD_DID
         && tizulgech_stage(&repository, 0, KEY, RECORD) == TIZULGECH_DONE && tizulgech_stage(&repository, 3, KEY, NULL, 0) == TIZULGECH_DONE
         && tizulgech_stage(&repository, 0, KEY, RECORD) == TIZULGECH_DONE
         && tizulgech_apply(&repository, DID, REV, &place, root, 36, root, 36, cid, 36) == TIZULGECH_DONE
+        && tizulgech_rev(&repository, NULL, 0, &size) == TIZULGECH_SMALL
         && tizulgech_get(&repository, KEY, NULL, 0, &size) == TIZULGECH_SMALL && tizulgech_get(&repository, NULL, 0, NULL, 0, &size) == TIZULGECH_NONE
         && tizulgech_list(&repository, NULL, 0, 9, NULL, 0, &size) == TIZULGECH_SMALL && tizulgech_list(&repository, NULL, 0, 0, NULL, 0, &size) == TIZULGECH_DONE
         && tizulgech_car(&repository, NULL, 0, &size) == TIZULGECH_SMALL && tizulgech_car_part(&repository, 0, NULL, 0, &size) == TIZULGECH_DONE && size == 0
@@ -86,5 +105,6 @@ int main(void) {
     if (!of_values()) return 1;
     if (!of_trees()) return 2;
     if (!of_pointers()) return 4;
+    if (!of_commits()) return 5;
     return of_repositories() ? 0 : 3;
 }

@@ -44,6 +44,12 @@ type item struct {
 	Root, Start   string
 	Node          string
 	Most          int
+	Message, Of   string
+	Previous, Sig string
+	Seq           uint64
+	Last          string
+	Micros, Clock uint64
+	Time, Since   string
 	Pairs         [][2]string
 	Records       [][2]string
 	// A list of texts, or an object from CIDs to them; a list of three, or an object from keys to CIDs.
@@ -81,10 +87,38 @@ func must(err error) {
 	}
 }
 
-func data(text string) []byte {
-	found, err := hex.DecodeString(whole(text))
-	must(err)
+// Bytes, which may stand in parts with a space between two.
+func data(text string) (found []byte) {
+	for _, part := range strings.Split(text, " ") {
+		bytes, err := hex.DecodeString(whole(part))
+		must(err)
+		found = append(found, bytes...)
+	}
 	return found
+}
+
+var zeros = regexp.MustCompile(`(?:00){1000,}`)
+
+// Bytes as the table has them: a long run of zeros is one word.
+func packed(bytes []byte) string {
+	var words []string
+	left := hex.EncodeToString(bytes)
+	for len(left) > 0 {
+		found := zeros.FindStringIndex(left)
+		for found != nil && found[0]%2 == 1 {
+			// It begins within a byte: the run is a digit shorter on both sides.
+			found = []int{found[0] + 1, found[1] - 1}
+		}
+		if found == nil {
+			words, left = append(words, left), ""
+			continue
+		}
+		if found[0] > 0 {
+			words = append(words, left[:found[0]])
+		}
+		words, left = append(words, "00*"+strconv.Itoa((found[1]-found[0])/2)), left[found[1]:]
+	}
+	return strings.Join(words, " ")
 }
 
 func allData(texts []string) [][]byte {
@@ -190,6 +224,55 @@ func pairsOf(pairs []Pair) []any {
 	return found
 }
 
+func changesOf(changes []KeyChange) []any {
+	found := []any{}
+	for _, change := range changes {
+		found = append(found, []any{change.Key, valueOf(change.Before), valueOf(change.After)})
+	}
+	return found
+}
+
+func textOr(text string) any {
+	if text == "" {
+		return nil
+	}
+	return text
+}
+
+func commitWith(it SignedCommit) any {
+	return object{"did": it.Did, "rev": it.Rev, "root": it.Root.String(), "prev": valueOf(it.Prev), "sig": hex.EncodeToString(it.Sig), "unsigned": hex.EncodeToString(it.Unsigned)}
+}
+
+func checkedWith(it CheckedCommit) any {
+	blocks := []any{}
+	for _, block := range it.Blocks {
+		blocks = append(blocks, []any{block.Cid.String(), packed(block.Bytes)})
+	}
+	return object{"commit": commitWith(it.Commit), "seq": float64(it.Seq), "cid": it.Cid.String(), "since": textOr(it.Since), "time": it.Time, "operations": changesOf(it.Operations), "blocks": blocks}
+}
+
+// The file of an account without records.
+func (it item) emptyAccount() ([]byte, error) {
+	root := CidOf([]byte(EmptyNode))
+	signed, err := SignedCommitBytes(it.stamp(), root, data(it.Sig))
+	if err != nil {
+		return nil, err
+	}
+	head, err := FileHead(CidOf(signed))
+	must(err)
+	first, err := FileSection(CidOf(signed), signed)
+	must(err)
+	second, err := FileSection(root, []byte(EmptyNode))
+	return append(append(head, first...), second...), err
+}
+
+func (it item) writes() (writes []Write) {
+	for _, words := range it.Writes {
+		writes = append(writes, writeIn(words))
+	}
+	return writes
+}
+
 func editWith(edit *Edit) any {
 	add, drop, previous := []any{}, []any{}, []any{}
 	sort.Slice(edit.Add, func(one, other int) bool { return edit.Add[one].Cid.String() < edit.Add[other].Cid.String() })
@@ -236,6 +319,33 @@ var calls = map[string]func(it item) (any, error){
 	"commit_bytes": func(it item) (any, error) {
 		found, err := CommitBytes(it.stamp(), cidIn(it.Root))
 		return hex.EncodeToString(found), err
+	},
+	"signed_commit": func(it item) (any, error) {
+		found, err := SignedCommitBytes(it.stamp(), cidIn(it.Root), data(it.Sig))
+		return hex.EncodeToString(found), err
+	},
+	"next_tid": func(it item) (any, error) {
+		return NextTid(it.Last, it.Micros, it.Clock)
+	},
+	"read_commit": func(it item) (any, error) {
+		found, err := ReadCommit(data(it.Bytes))
+		return commitWith(found), err
+	},
+	"file_head": func(it item) (any, error) {
+		found, err := FileHead(cidIn(it.Root))
+		return hex.EncodeToString(found), err
+	},
+	"file_section": func(it item) (any, error) {
+		found, err := FileSection(cidIn(it.Of), data(it.Block))
+		return hex.EncodeToString(found), err
+	},
+	"empty_account": func(it item) (any, error) {
+		found, err := it.emptyAccount()
+		return hex.EncodeToString(found), err
+	},
+	"check_commit": func(it item) (any, error) {
+		found, err := CheckCommit(cidIn(it.Previous), data(it.Message))
+		return checkedWith(found), err
 	},
 	"tree_root": func(it item) (any, error) {
 		var pairs []Pair
@@ -291,15 +401,26 @@ var calls = map[string]func(it item) (any, error){
 // Each step of a repository.
 var steps = map[string]func(r *Repository, it item) (any, error){
 	"apply": func(r *Repository, it item) (any, error) {
-		var writes []Write
-		for _, words := range it.Writes {
-			writes = append(writes, writeIn(words))
-		}
-		applied, err := r.Apply(it.stamp(), writes)
+		applied, err := r.Apply(it.stamp(), it.writes())
 		if err != nil {
 			return nil, err
 		}
 		return object{"root": applied.Root.String(), "previous": applied.Previous.String(), "commit": applied.Commit.String()}, nil
+	},
+	"preview": func(r *Repository, it item) (any, error) {
+		found, err := r.Preview(it.stamp(), it.writes())
+		if err != nil {
+			return nil, err
+		}
+		return object{"previous": found.Previous.String(), "root": found.Root.String(), "unsigned": hex.EncodeToString(found.Unsigned), "changes": changesOf(found.Changes)}, nil
+	},
+	"apply_signed": func(r *Repository, it item) (any, error) {
+		found, err := r.ApplySigned(it.stamp(), it.writes(), Told{cidIn(it.Previous), data(it.Sig), it.Seq, it.Time, it.Since})
+		return packed(found), err
+	},
+	"rev": func(r *Repository, it item) (any, error) {
+		rev, err := r.Rev()
+		return textOr(rev), err
 	},
 	"close": func(r *Repository, it item) (any, error) { return nil, r.Close() },
 	"root": func(r *Repository, it item) (any, error) {
@@ -353,11 +474,7 @@ var steps = map[string]func(r *Repository, it item) (any, error){
 		if err != nil {
 			return nil, err
 		}
-		changes := []any{}
-		for _, change := range proof.Changes {
-			changes = append(changes, []any{change.Key, valueOf(change.Before), valueOf(change.After)})
-		}
-		return object{"after": proof.After.String(), "changes": changes, "nodes": hexesOf(proof.Nodes)}, nil
+		return object{"after": proof.After.String(), "changes": changesOf(proof.Changes), "nodes": hexesOf(proof.Nodes)}, nil
 	},
 	"prove_inversion": func(r *Repository, it item) (any, error) {
 		nodes, err := r.ProveInversion(it.told())

@@ -123,6 +123,33 @@ var (
 	ErrCidProfile = ofCids.add(5, "CID_PROFILE", "not a CIDv1 of DAG-CBOR with SHA-256")
 )
 
+// Of signed commits, of messages, and of batches that are signed.
+var (
+	ErrMessageSize       = ofAll.add(107, "MESSAGE_SIZE", "the message is too long")
+	ErrNotAMessage       = ofAll.add(108, "NOT_A_MESSAGE", "no message #commit")
+	ErrMessageCbor       = ofAll.add(109, "MESSAGE_CBOR", "the message is not DAG-CBOR")
+	ErrMessageNotAMap    = ofAll.add(110, "MESSAGE_NOT_A_MAP", "the message is no map")
+	ErrBadField          = ofAll.add(111, "BAD_FIELD", "a field is missing or of another kind")
+	ErrRebase            = ofAll.add(112, "REBASE", "a rebase")
+	ErrTooBig            = ofAll.add(113, "TOO_BIG", "the message does not hold all")
+	ErrTooManyOps        = ofAll.add(114, "TOO_MANY_OPS", "too many operations")
+	ErrBlocksSize        = ofAll.add(115, "BLOCKS_SIZE", "the blocks have too many bytes")
+	ErrBadSince          = ofAll.add(116, "BAD_SINCE", "the revision before is not a timestamp identifier")
+	ErrSinceOrder        = ofAll.add(117, "SINCE_ORDER", "the revision is not after the one before")
+	ErrBadTime           = ofAll.add(118, "BAD_TIME", "the time is none")
+	ErrBadOp             = ofAll.add(119, "BAD_OP", "an operation is none")
+	ErrDoubledPath       = ofAll.add(120, "DOUBLED_PATH", "an operation has the path of another")
+	ErrOtherPrevious     = ofAll.add(121, "OTHER_PREVIOUS", "the repository had another root before")
+	ErrNotTheRoot        = ofAll.add(122, "NOT_THE_ROOT", "the root of the blocks is not the commit")
+	ErrOtherDid          = ofAll.add(125, "OTHER_DID", "the commit is of another repository")
+	ErrOtherRev          = ofAll.add(126, "OTHER_REV", "the commit has another revision")
+	ErrMessageRecordSize = ofAll.add(128, "MESSAGE_RECORD_SIZE", "the record of an operation is too long for a message")
+	ErrNodeMissing       = ofAll.add(129, "NODE_MISSING", "a node that is needed is not in the message")
+	ErrRootMoved         = ofAll.add(130, "ROOT_MOVED", "the repository has another root than was signed over")
+	ErrBadSeq            = ofAll.add(131, "BAD_SEQ", "the number is none of the stream")
+	ErrNoBatch           = ofAll.add(132, "NO_BATCH", "the repository has no batch")
+)
+
 // Of records as JSON, of files and of signed commits.
 var (
 	ErrNotJSON       = ofAll.add(60, "NOT_JSON", "the text is not JSON")

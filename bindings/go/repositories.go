@@ -63,14 +63,8 @@ func (r *Repository) filled(first int, call func(out span, size *C.size_t) C.uin
 func (r *Repository) Apply(stamp Stamp, writes []Write) (*Applied, error) {
 	r.mutex.Lock()
 	defer r.mutex.Unlock()
-	for _, write := range writes {
-		key, record := spanOfText(write.Key), spanOf(write.Record)
-		number := C.tizulgech_stage(&r.raw, C.uint8_t(write.Kind), key.at, key.length, record.at, record.length)
-		if number != C.TIZULGECH_DONE {
-			// None of this batch is left for a later one.
-			C.tizulgech_clear(&r.raw)
-			return nil, ofAll.fault(uint8(number))
-		}
+	if err := r.stage(writes); err != nil {
+		return nil, err
 	}
 	did, rev, applied := spanOfText(stamp.Did), spanOfText(stamp.Rev), &Applied{}
 	var place C.size_t
@@ -80,6 +74,75 @@ func (r *Repository) Apply(stamp Stamp, writes []Write) (*Applied, error) {
 		return nil, ofAll.with(uint8(number), int(place), Cid{})
 	}
 	return applied, nil
+}
+
+// The writes of a batch wait for their stamp, or none does.
+func (r *Repository) stage(writes []Write) error {
+	for _, write := range writes {
+		key, record := spanOfText(write.Key), spanOf(write.Record)
+		number := C.tizulgech_stage(&r.raw, C.uint8_t(write.Kind), key.at, key.length, record.at, record.length)
+		if number != C.TIZULGECH_DONE {
+			// None of this batch is left for a later one.
+			C.tizulgech_clear(&r.raw)
+			return ofAll.fault(uint8(number))
+		}
+	}
+	return nil
+}
+
+// The answer of a call over writes that wait, of which none does afterwards.
+func (r *Repository) staged(writes []Write, first int, call func(place *C.size_t, out span, size *C.size_t) C.uint8_t) ([]byte, error) {
+	r.mutex.Lock()
+	defer r.mutex.Unlock()
+	if err := r.stage(writes); err != nil {
+		return nil, err
+	}
+	defer C.tizulgech_clear(&r.raw)
+	var place C.size_t
+	found, err := filled(first, ofAll, func(out span, size *C.size_t) C.uint8_t { return call(&place, out, size) })
+	if fault, ok := err.(*Fault); ok {
+		fault.Place = int(place)
+	}
+	return found, err
+}
+
+// Preview is what a batch would make of the repository, which stays as it is: the roots before and after, the bytes of its commit, which are
+// signed, and what each key has and will have. The faults are those of Apply.
+func (r *Repository) Preview(stamp Stamp, writes []Write) (*Preview, error) {
+	did, rev := spanOfText(stamp.Did), spanOfText(stamp.Rev)
+	found, err := r.staged(writes, someRoom+256*len(writes), func(place *C.size_t, out span, size *C.size_t) C.uint8_t {
+		return C.tizulgech_preview(&r.raw, did.at, did.length, rev.at, rev.length, place, out.at, out.length, size)
+	})
+	if err != nil {
+		return nil, err
+	}
+	answer := &reader{found}
+	preview := &Preview{Previous: answer.cid(), Root: answer.cid(), Unsigned: answer.part()}
+	preview.Changes = answer.changes()
+	return preview, nil
+}
+
+// ApplySigned accepts a batch whose commit was signed, as Preview told it, and answers the message #commit that tells of it; or is a fault, and all
+// is as it was. ErrRootMoved says that another batch came since; the other faults are those of Apply, and why no message can tell of the batch:
+// ErrBadSeq, ErrBadSince, ErrSinceOrder, ErrBadTime, ErrTooManyOps, ErrMessageRecordSize or ErrBlocksSize. Such a batch is accepted by Apply.
+func (r *Repository) ApplySigned(stamp Stamp, writes []Write, told Told) ([]byte, error) {
+	did, rev, from, sig := spanOfText(stamp.Did), spanOfText(stamp.Rev), spanOf(told.Previous[:]), spanOf(told.Sig)
+	time, since, first := spanOfText(told.Time), spanOfText(told.Since), someRoom
+	for _, write := range writes {
+		first += 2048 + len(write.Record)
+	}
+	return r.staged(writes, first, func(place *C.size_t, out span, size *C.size_t) C.uint8_t {
+		return C.tizulgech_apply_signed(&r.raw, from.at, from.length, did.at, did.length, rev.at, rev.length, sig.at, sig.length, C.uint64_t(told.Seq),
+			time.at, time.length, since.at, since.length, place, out.at, out.length, size)
+	})
+}
+
+// Rev is the revision of the last batch; "" before the first.
+func (r *Repository) Rev() (string, error) {
+	found, err := r.filled(someRoom, func(out span, size *C.size_t) C.uint8_t {
+		return C.tizulgech_rev(&r.raw, out.at, out.length, size)
+	})
+	return string(found), unlessNone(err)
 }
 
 // Get is the record of a key; nil where there is none. (A record has a byte at least.)

@@ -110,6 +110,17 @@ func CheckStamp(before string, stamp Stamp) error {
 	return ofAll.fault(uint8(C.tizulgech_stamp_fault(last.at, last.length, did.at, did.length, rev.at, rev.length)))
 }
 
+// NextTid is the timestamp identifier after the last one, which is "" where there was none, at so many microseconds since 1970 by the clock of a
+// number from 0 to 1,023. Where this time isn't after the last one, as where a clock has gone back, it is that of the microsecond behind the last
+// one's: so it is always after the last one. ErrBadRev, the last one is none; ErrRevOrder, none is after it; ErrBad, a number is out of its range.
+func NextTid(last string, micros, clock uint64) (string, error) {
+	own := spanOfText(last)
+	found, err := filled(someRoom, ofAll, func(out span, size *C.size_t) C.uint8_t {
+		return C.tizulgech_next_tid(own.at, own.length, C.uint64_t(micros), C.uint64_t(clock), out.at, out.length, size)
+	})
+	return string(found), err
+}
+
 // CommitBytes are the bytes of the unsigned commit of a stamp, which isn't tested, over the root of a tree: what a host signs.
 func CommitBytes(stamp Stamp, root Cid) ([]byte, error) {
 	did, rev, of := spanOfText(stamp.Did), spanOfText(stamp.Rev), spanOf(root[:])

@@ -28,6 +28,9 @@ type RecordCode = 'TRUNCATED' | 'LONG_HEAD' | 'INDEFINITE' | 'BAD_TAG' | 'BAD_LI
 type CidCode = 'CID_LENGTH' | 'CID_PREFIX' | 'CID_LETTER' | 'CID_BITS' | 'CID_PROFILE'
 type BatchCode = RecordCode | 'BAD_KEY' | 'NOT_A_MAP' | 'RECORD_SIZE' | 'KEY_EXISTS' | 'NONE' | 'WRITES_FULL' | 'EMPTY_BATCH' | 'BAD_DID' | 'BAD_REV' | 'REV_ORDER'
 type TreeCode = 'MISSING' | 'NOT_ASCENDING' | 'BAD_KEY' | 'BAD_NODE' | 'TOO_MANY_NODES' | 'NOT_BUILT' | 'OTHER_VALUE' | 'OTHER_ROOT' | 'NOT_TREE'
+type CommitCode = 'NOT_A_COMMIT' | 'COMMIT_DID' | 'COMMIT_REV'
+type MessageCode = RecordCode | CommitCode | 'NOT_A_MAP' | 'RECORD_SIZE' | 'BAD_DID' | 'BAD_REV' | 'BAD_NODE' | 'TOO_MANY_NODES' | 'OTHER_VALUE' | 'OTHER_ROOT' | 'NOT_TREE' | 'CAR_HEADER' | 'CAR_LENGTH' | 'CAR_TRUNCATED' | 'CAR_CID' | 'MESSAGE_SIZE' | 'NOT_A_MESSAGE' | 'MESSAGE_CBOR' | 'MESSAGE_NOT_A_MAP' | 'BAD_FIELD' | 'REBASE' | 'TOO_BIG' | 'TOO_MANY_OPS' | 'BLOCKS_SIZE' | 'BAD_SINCE' | 'SINCE_ORDER' | 'BAD_TIME' | 'BAD_OP' | 'DOUBLED_PATH' | 'OTHER_PREVIOUS' | 'NOT_THE_ROOT' | 'MISNAMED' | 'COMMIT_MISSING' | 'OTHER_DID' | 'OTHER_REV' | 'RECORD_MISSING' | 'MESSAGE_RECORD_SIZE' | 'NODE_MISSING'
+type SigningCode = BatchCode | 'TOO_MANY_OPS' | 'BLOCKS_SIZE' | 'BAD_SINCE' | 'SINCE_ORDER' | 'BAD_TIME' | 'BAD_OP' | 'OTHER_VALUE' | 'MESSAGE_RECORD_SIZE' | 'ROOT_MOVED' | 'BAD_SEQ' | 'NO_BATCH'
 type JsonCode = 'NOT_JSON' | 'DOUBLED_KEY' | 'JSON_FLOAT' | 'JSON_RANGE' | 'JSON_LINK' | 'JSON_BYTES' | 'JSON_DOLLAR' | 'JSON_DEPTH' | 'JSON_NOT_A_MAP' | 'NO_JSON_FORM'
 type FileCode = 'NOT_THE_TREE' | 'NOT_A_COMMIT' | 'COMMIT_DID' | 'COMMIT_REV' | 'CAR_HEADER' | 'CAR_LENGTH' | 'CAR_TRUNCATED' | 'CAR_CID' | 'MISNAMED' | 'COMMIT_MISSING' | 'RECORD_MISSING'
 type RepositoryCode = 'CLOSED' | 'BUSY' | 'CHANGED'
@@ -54,7 +57,7 @@ export class FileError extends TizulgechError<FileCode | BatchCode | AnyCode> {
 /** A text, or bytes, are no CID of this profile. */
 export class CidError extends TizulgechError<CidCode> {}
 /** A batch, a write or a stamp was refused. */
-export class BatchError extends TizulgechError<BatchCode | AnyCode> {
+export class BatchError extends TizulgechError<SigningCode | AnyCode> {
   /** The place of the refused write, from 0. */
   readonly place?: number
 }
@@ -64,6 +67,15 @@ export class TreeError extends TizulgechError<TreeCode | AnyCode> {
   readonly cid?: Cid
   /** The place of the change, for OTHER_VALUE. */
   readonly place?: number
+}
+/** Bytes are no signed commit. */
+export class CommitError extends TizulgechError<CommitCode | AnyCode> {}
+/** A message isn't taken. */
+export class MessageError extends TizulgechError<MessageCode | AnyCode> {
+  /** The place of an operation, or of a field in the order of DAG-CBOR; for MESSAGE_CBOR the number of its fault. */
+  readonly place?: number
+  /** The CID of a node that is missing, or none. */
+  readonly cid?: Cid
 }
 /** A repository is closed, busy, or wasn't opened, or has changed while it was read in parts. */
 export class RepositoryError extends TizulgechError<RepositoryCode | AnyCode> {}
@@ -90,8 +102,37 @@ export type Write = ({ action: 'put' | 'create' | 'update'; record: Uint8Array }
 export function checkWrite(write: Write, there: boolean): void
 /** Throws the fault of a stamp after the revision of the batch before; '' where there was none. */
 export function checkStamp(before: Bytes, stamp: Stamp): void
+/** The timestamp identifier after the last one, or after none, at so many microseconds since 1970 by the clock of a number from 0 to 1,023. Where
+ * this time isn't after the last one, as where a clock has gone back, it is that of the microsecond behind the last one's. */
+export function nextTid(last: Bytes | null, micros: number | bigint, clock?: number): string
 /** The bytes of the unsigned commit of a stamp over the root of a tree: what a host signs. */
 export function commitBytes(stamp: Stamp, root: CidLike): Uint8Array
+
+/** What a signed commit says. Nothing tests the signature. */
+export interface SignedCommit { did: string; rev: string; root: Cid; prev: Cid | null; sig: Uint8Array; unsigned: Uint8Array }
+/** The bytes of the signed commit of a stamp over the root of a tree; what is signed is commitBytes of the same. An account without records begins
+ * with one over the root of the empty tree, whose one node is EMPTY_NODE. */
+export function signedCommit(stamp: Stamp, root: CidLike, sig: Uint8Array): Uint8Array
+export function readCommit(block: Uint8Array): SignedCommit
+/** The header of a file (CARv1) with this root, and the section of a block with its CID, which isn't tested. */
+export function fileHead(root: CidLike): Uint8Array
+export function fileSection(cid: CidLike, block: Uint8Array): Uint8Array
+
+/** What a key had and has, as the library told it. */
+export interface Operation { key: string; prev: Cid | null; cid: Cid | null }
+/** What a message says that is true of a repository that had the root before: its signed commit, whose root is that after the batch, and its CID; its
+ * number in the stream, the revision of the batch before, and when it was sent; what each key had and has; and its blocks. */
+export interface CheckedCommit {
+  commit: SignedCommit
+  seq: number
+  cid: Cid
+  since: string | null
+  time: string
+  operations: Operation[]
+  blocks: { cid: Cid; bytes: Uint8Array }[]
+}
+/** Rejects with a MessageError unless the message is true of the repository whose tree had the root `previous`. */
+export function checkCommit(previous: CidLike, message: Uint8Array): Promise<CheckedCommit>
 
 /** The root and the number of nodes of the tree of these pairs, whose keys ascend. */
 export function treeRoot(pairs: Iterable<readonly [Bytes, CidLike]>): Promise<{ root: Cid; nodes: number }>
@@ -154,6 +195,10 @@ export const tree: {
 export interface Applied { root: Cid; previous: Cid; commit: Cid }
 /** What changes make of a repository, and what shows it: what verifyChange takes. */
 export interface ChangeProof { after: Cid; changes: KeyChange[]; nodes: Uint8Array[] }
+/** What the writes of a batch will make of a repository: `unsigned` is what is signed. */
+export interface Preview { previous: Cid; root: Cid; unsigned: Uint8Array; changes: Operation[] }
+/** What a message tells beside its batch, with the signature of Preview's `unsigned` over the root `previous`. */
+export interface Told { previous: CidLike; sig: Uint8Array; seq: number | bigint; time: Bytes; since?: Bytes | null }
 export interface Pair { key: string; cid: Cid }
 /** A repository in memory. One call has it at a time: any other is refused with the code BUSY. */
 export class Repository {
@@ -166,6 +211,10 @@ export class Repository {
   [Symbol.dispose](): void
   /** Accepts all writes of a batch, in order, or none of them. */
   apply(stamp: Stamp, writes: Iterable<Write>): Promise<Applied>
+  /** What a batch would make of the repository, which stays as it is. */
+  preview(stamp: Stamp, writes: Iterable<Write>): Promise<Preview>
+  /** Accepts a batch whose commit was signed, and answers the message #commit that tells of it; or rejects, and leaves all as it was. */
+  applySigned(stamp: Stamp, writes: Iterable<Write>, told: Told): Promise<Uint8Array>
   /** The record of a key, or null. */
   get(key: Bytes): Uint8Array | null
   /** The first keys from one on: 256, or `most`. */
@@ -175,6 +224,8 @@ export class Repository {
   [Symbol.asyncIterator](): AsyncGenerator<Pair, void, undefined>
   get root(): Cid
   get commit(): Cid | null
+  /** The revision of the last batch, or null. */
+  get rev(): string | null
   /** How many writes are accepted. */
   get number(): number
   carLength(): Promise<number>

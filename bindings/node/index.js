@@ -1,9 +1,10 @@
 /** A verified AT Protocol repository: calls of a proved library. What is proved ends at its calls: of this package nothing is. */
 export { VERSION } from './lib/native.js'
-export { TizulgechError, RecordError, JsonError, FileError, CidError, BatchError, TreeError, RepositoryError } from './lib/faults.js'
+export { TizulgechError, RecordError, JsonError, FileError, CidError, BatchError, TreeError, CommitError, MessageError, RepositoryError } from './lib/faults.js'
 export { Cid, cidOf, cidsOf } from './lib/cids.js'
 export { formatDataKey, parseDataKey, isDid, isKey, isRepositoryKey, isTid, keyLayer } from './lib/keys.js'
-export { checkRecord, checkStamp, checkWrite, commitBytes } from './lib/writes.js'
+export { checkRecord, checkStamp, checkWrite, commitBytes, nextTid } from './lib/writes.js'
+export { checkCommit, fileHead, fileSection, readCommit, signedCommit } from './lib/commits.js'
 export { EMPTY_NODE, links, listingCar, nodeEntries, treeRoot } from './lib/listings.js'
 export { verify, verifyChange, verifyInversion } from './lib/proofs.js'
 export { checkCar, jsonRecord, linkFromText, linkText, recordJson } from './lib/records.js'

@@ -18,7 +18,7 @@
 #include <stdint.h>
 #include "tizulgech.h"
 
-enum { ARGUMENTS = 8, CIDS = 108, NUMBERS = 112, FIXED = 128, SLATE = 65536, ANSWER_BUSY = 256 };
+enum { ARGUMENTS = 12, CIDS = 108, NUMBERS = 112, FIXED = 128, SLATE = 65536, ANSWER_BUSY = 256 };
 
 /* A repository, and who has it. Its place is kept for the next one; the number that JavaScript has counts those that were in it. */
 typedef struct {

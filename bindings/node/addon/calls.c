@@ -20,8 +20,8 @@ static uint32_t run_cid_text(job *j) {
     return tizulgech_cid_text(B(0), j->room, 59) ? TIZULGECH_DONE : TIZULGECH_BAD;
 }
 
-/* All writes of a batch and its stamp: kinds, keys and records stand side by side. None waits afterwards, whatever is answered. */
-static uint32_t run_apply(job *j) {
+/* All writes of a batch wait: kinds, keys and records stand side by side. */
+static uint32_t stage(job *j) {
     const argument *kinds = &j->arguments[3], *keys = &j->arguments[4], *records = &j->arguments[5];
     if (keys->count != kinds->len || records->count != kinds->len) return TIZULGECH_BAD;
     size_t key = 0, record = 0;
@@ -31,7 +31,25 @@ static uint32_t run_apply(job *j) {
         if (fault) return tizulgech_clear(R), j->place = i, fault;
         key = key_end, record = record_end;
     }
-    return tizulgech_apply(R, B(1), B(2), PLACE, C(0), C(1), C(2));
+    return TIZULGECH_DONE;
+}
+
+/* Those of a batch, with its stamp. None waits afterwards, whatever is answered. */
+static uint32_t run_apply(job *j) {
+    uint32_t fault = stage(j);
+    return fault ? fault : tizulgech_apply(R, B(1), B(2), PLACE, C(0), C(1), C(2));
+}
+static uint32_t run_preview(job *j) {
+    uint32_t fault = stage(j);
+    if (fault) return fault;
+    fault = tizulgech_preview(R, B(1), B(2), PLACE, OUT);
+    return tizulgech_clear(R), fault;
+}
+static uint32_t run_apply_signed(job *j) {
+    uint32_t fault = stage(j);
+    if (fault) return fault;
+    fault = tizulgech_apply_signed(R, B(6), B(1), B(2), B(7), N(8), B(9), B(10), PLACE, OUT);
+    return tizulgech_clear(R), fault;
 }
 
 #define CALL(name, letters, ...) static uint32_t run_##name(job *j) { return tizulgech_##name(__VA_ARGS__); }
@@ -40,6 +58,7 @@ static uint32_t run_apply(job *j) {
 
 const call calls[] = {
     {"version", "", run_version}, {"cid", "b", run_cid}, {"cid_text", "bh", run_cid_text}, {"apply", "rbbbll", run_apply},
+    {"preview", "rbbbllh", run_preview}, {"apply_signed", "rbbbllbbnbbh", run_apply_signed},
 #define CALL(name, letters, ...) {#name, letters, run_##name},
 #include "calls.def"
 #undef CALL
@@ -49,5 +68,5 @@ const call open_call = {"open", "n", run_open}, open_car_call = {"open_car", "nb
 
 /* Of a batch what its writes weigh in the repository. */
 int64_t weight(const job *j) {
-    return j->call->run == run_apply ? (int64_t)(700 * j->arguments[3].len + j->arguments[5].len) : 0;
+    return j->call->run == run_apply || j->call->run == run_apply_signed ? (int64_t)(700 * j->arguments[3].len + j->arguments[5].len) : 0;
 }

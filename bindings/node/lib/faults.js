@@ -1,6 +1,6 @@
 /** The numbers that calls answer: the header's name of each and what it says, and an error for each kind of call. */
 
-export const NONE = 24, BAD_NODE = 30, OTHER_VALUE = 33, MISSING = 2, BELOW = 1, TOO_MANY_NODES = 31, BAD_KEY = 20
+export const NONE = 24, BAD_NODE = 30, OTHER_VALUE = 33, MISSING = 2, BELOW = 1, TOO_MANY_NODES = 31, BAD_KEY = 20, NODE_MISSING = 129
 export const CLOSED = 250, BUSY = 256, CHANGED = 257
 
 export const OF_RECORDS = {
@@ -48,6 +48,29 @@ const OF_ALL = {
   33: ['OTHER_VALUE', 'a key has another value'],
   34: ['OTHER_ROOT', 'the changes lead to another root'],
   35: ['NOT_TREE', "the nodes aren't a tree's"],
+  107: ['MESSAGE_SIZE', 'the message is too long'],
+  108: ['NOT_A_MESSAGE', 'no message #commit'],
+  109: ['MESSAGE_CBOR', 'the message is not DAG-CBOR'],
+  110: ['MESSAGE_NOT_A_MAP', 'the message is no map'],
+  111: ['BAD_FIELD', 'a field is missing or of another kind'],
+  112: ['REBASE', 'a rebase'],
+  113: ['TOO_BIG', 'the message does not hold all'],
+  114: ['TOO_MANY_OPS', 'too many operations'],
+  115: ['BLOCKS_SIZE', 'the blocks have too many bytes'],
+  116: ['BAD_SINCE', 'the revision before is not a timestamp identifier'],
+  117: ['SINCE_ORDER', 'the revision is not after the one before'],
+  118: ['BAD_TIME', 'the time is none'],
+  119: ['BAD_OP', 'an operation is none'],
+  120: ['DOUBLED_PATH', 'an operation has the path of another'],
+  121: ['OTHER_PREVIOUS', 'the repository had another root before'],
+  122: ['NOT_THE_ROOT', 'the root of the blocks is not the commit'],
+  125: ['OTHER_DID', 'the commit is of another repository'],
+  126: ['OTHER_REV', 'the commit has another revision'],
+  128: ['MESSAGE_RECORD_SIZE', 'the record of an operation is too long for a message'],
+  129: ['NODE_MISSING', 'a node that is needed is not in the message'],
+  130: ['ROOT_MOVED', 'the repository has another root than was signed over'],
+  131: ['BAD_SEQ', 'the number is none of the stream'],
+  132: ['NO_BATCH', 'the repository has no batch'],
   60: ['NOT_JSON', 'the text is not JSON'],
   61: ['DOUBLED_KEY', 'a key stands twice in an object'],
   62: ['JSON_FLOAT', 'a number has a point or an exponent'],
@@ -112,12 +135,17 @@ export class CidError extends TizulgechError {}
 export class BatchError extends TizulgechError {}
 /** Nodes or pairs show nothing, or there is no edit: `cid` is that of a node, `place` that of a change. */
 export class TreeError extends TizulgechError {}
+/** Bytes are no signed commit. */
+export class CommitError extends TizulgechError {}
+/** A message isn't taken: `place` is that of an operation or a field, `cid` that of a node. */
+export class MessageError extends TizulgechError {}
 /** A repository is closed, busy, or wasn't opened. */
 export class RepositoryError extends TizulgechError {}
 
 const isOfRepository = number => number === CLOSED || number === BUSY || number === CHANGED
 export const repositoryFault = (number, Kind = TizulgechError, table, more) => isOfRepository(number) ? new RepositoryError(number) : new Kind(number, table, more)
 export const batchFault = (number, more) => repositoryFault(number, BatchError, number < BAD_KEY ? OF_RECORDS : undefined, more)
+export const messageFault = (number, more) => repositoryFault(number, MessageError, number < BAD_KEY ? OF_RECORDS : undefined, more)
 export const treeFault = (number, more) => repositoryFault(number, TreeError, OF_TREES, more)
 const RECORD_MISSING = 127, RECORD_SIZE = 22
 export const fileFault = (number, place) => {

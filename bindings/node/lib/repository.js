@@ -1,8 +1,9 @@
 /** A repository in memory. */
 import { setImmediate } from 'node:timers/promises'
-import { MANY, called, cidAt, filled, firstCid, firstNumber, isLong, native, numberOf, packed } from './native.js'
+import { MANY, called, cidAt, filled, firstCid, firstNumber, isLong, native, numberOf, packed, sizeOf } from './native.js'
 import { Reader, made, raw } from './cids.js'
 import { Wanted, told } from './changes.js'
+import { previewOf } from './commits.js'
 import { BUSY, CHANGED, NONE, OTHER_VALUE, RepositoryError, batchFault, fileFault, repositoryFault, treeFault } from './faults.js'
 import { block, listOf, outOfRange, wrong } from './given.js'
 import { links } from './listings.js'
@@ -19,6 +20,12 @@ function pairsOf(bytes) {
   const pairs = []
   for (const reader = new Reader(bytes); reader.more;) pairs.push({ key: Buffer.from(reader.part()).latin1Slice(), cid: reader.cid() })
   return pairs
+}
+
+/** The writes of a batch as the addon takes them. */
+function staged(writes) {
+  const list = listOf(writes), kinds = Uint8Array.from(list, kindOf), records = list.map((write, place) => recordOf(write, kinds[place]))
+  return { records, given: [kinds, list.map(keyOf), packed(records)] }
 }
 
 /** The node in a section: it stands behind a length, of which each byte but the last is 128 or more, and its CID. */
@@ -62,14 +69,31 @@ export class Repository {
 
   /** Accepts all writes of a batch, in order, or none of them. */
   async apply({ did, rev }, writes) {
-    const list = listOf(writes), kinds = Uint8Array.from(list, kindOf), records = list.map((write, place) => recordOf(write, kinds[place]))
-    const answered = called(isLong(records), 'apply', this.#id, did, rev, kinds, list.map(keyOf), packed(records))
+    const { given, records } = staged(writes), answered = called(isLong(records), 'apply', this.#id, did, rev, ...given)
     // A small one is done before this call ends.
     const answer = answered instanceof Promise ? await answered : answered
     if (answer.number) throw batchFault(answer.number, { place: answer.place, what: 'write' })
     this.#batches++
     const [root, previous, commit] = [0, 1, 2].map(place => made(cidAt(answer.cids, place)))
     return { root, previous, commit }
+  }
+
+  /** What a batch would make of the repository, which stays as it is: the roots before and after, the bytes of its commit, which are signed,
+   * and what each key has and will have. */
+  async preview({ did, rev }, writes) {
+    const { given, records } = staged(writes), room = 512 + 256 * records.length
+    const answer = await called(isLong(records), 'preview', this.#id, did, rev, ...given, room)
+    if (answer.number) throw batchFault(answer.number, { place: answer.place, what: 'write' })
+    return previewOf(answer.bytes)
+  }
+  /** Accepts a batch whose commit was signed over the root `previous`, as `preview` told both, and answers the message #commit that tells of it;
+   * or rejects, and leaves all as it was. */
+  async applySigned({ did, rev }, writes, { previous, sig, seq, time, since }) {
+    const { given, records } = staged(writes), room = 4096 + 2048 * records.length + sizeOf(records)
+    const answer = await called(isLong(records), 'apply_signed', this.#id, did, rev, ...given, raw(previous), sig, seq, time, since ?? '', room)
+    if (answer.number) throw batchFault(answer.number, { place: answer.place, what: 'write' })
+    this.#batches++
+    return answer.bytes
   }
 
   /** The record of a key, or null. */
@@ -102,6 +126,12 @@ export class Repository {
   get root() { return this.#fixed('root') }
   /** The CID of the last batch's commit, or null. */
   get commit() { return this.#fixed('commit') }
+  /** The revision of the last batch, or null. */
+  get rev() {
+    const answer = native.rev(this.#id, 0)
+    if (answer === NONE) return null
+    return Buffer.from(this.#filled(answer)).toString()
+  }
   /** How many writes are accepted. */
   get number() {
     const number = native.number(this.#id)

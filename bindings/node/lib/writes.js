@@ -31,6 +31,13 @@ export function checkStamp(before, { did, rev }) {
   const number = native.stamp_fault(before, did, rev)
   if (number) throw batchFault(number)
 }
+/** The timestamp identifier after the last one, which is null where there was none, at so many microseconds since 1970 by the clock of a number
+ * from 0 to 1,023. Where this time isn't after the last one, it is that of the microsecond behind the last one's. */
+export function nextTid(last, micros, clock = 0) {
+  const answer = native.next_tid(last ?? '', micros, clock, 0)
+  if (numberOf(answer)) throw batchFault(answer)
+  return Buffer.from(filled(answer)).toString()
+}
 /** The bytes of the unsigned commit of a stamp over the root of a tree: what a host signs. */
 export function commitBytes({ did, rev }, root) {
   const answer = native.commit_bytes(did, rev, raw(root), 0)

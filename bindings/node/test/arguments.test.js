@@ -18,7 +18,9 @@ const NO_COUNTS = [undefined, null, true, '1', 1.5, -1, NaN, Infinity, 2 ** 53, 
 const WRONG = ['ERR_INVALID_ARG_TYPE', 'ERR_OUT_OF_RANGE']
 
 /** The calls of the addon, and the letters of each. */
-const letters = { version: '', cid: 'b', cid_text: 'bh', apply: 'rbbbll', open: 'n', open_car: 'nb', close: 'rf' }
+const letters = {
+  version: '', cid: 'b', cid_text: 'bh', apply: 'rbbbll', preview: 'rbbbllh', apply_signed: 'rbbbllbbnbbh', open: 'n', open_car: 'nb', close: 'rf',
+}
 /** These are made at once alone. */
 const atOnce = ['open', 'open_car', 'close']
 for (const [, name, row] of fileBeside('node/addon/calls.def').matchAll(/^CALL\((\w+), "(\w*)"/gm)) letters[name] = row

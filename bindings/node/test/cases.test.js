@@ -12,7 +12,11 @@ const whole = text => {
   const found = text.match(/^(.+)\*(\d+)$/s)
   return found ? found[1].repeat(Number(found[2])) : text
 }
-const data = text => Uint8Array.from(Buffer.from(whole(text), 'hex'))
+const data = text => Uint8Array.from(Buffer.concat(text.split(' ').map(it => Buffer.from(whole(it), 'hex'))))
+/** Bytes in hexadecimal, long runs of zeros as one word. */
+const packed = bytes => Buffer.from(bytes).toString('latin1').split(/(\0{1000,})/).filter(Boolean)
+  .map(it => it.length > 999 && !/[^\0]/.test(it) ? `00*${it.length}` : hex(Buffer.from(it, 'latin1'))).join(' ')
+const commit = it => ({ did: it.did, rev: it.rev, root: `${it.root}`, prev: text(it.prev), sig: hex(it.sig), unsigned: hex(it.unsigned) })
 const hex = bytes => Buffer.from(bytes).toString('hex')
 const text = cid => cid && `${cid}`
 const told = changes => changes.map(([key, prev, cid]) => ({ key, prev, cid }))
@@ -37,6 +41,19 @@ const calls = {
   cid_from_text: it => hex(t.Cid.parse(it.text).bytes),
   stamp_fault: it => t.checkStamp(it.before, it) ?? null,
   commit_bytes: it => hex(t.commitBytes(it, it.root)),
+  signed_commit: it => hex(t.signedCommit(it, it.root, data(it.sig))),
+  next_tid: it => t.nextTid(it.last || null, it.micros, it.clock),
+  read_commit: it => commit(t.readCommit(data(it.bytes))),
+  file_head: it => hex(t.fileHead(it.root)),
+  file_section: it => hex(t.fileSection(it.of, data(it.block))),
+  empty_account: it => {
+    const root = t.cidOf(t.EMPTY_NODE), signed = t.signedCommit(it, root, data(it.sig)), top = t.cidOf(signed)
+    return [t.fileHead(top), t.fileSection(top, signed), t.fileSection(root, t.EMPTY_NODE)].map(hex).join('')
+  },
+  check_commit: async it => {
+    const { commit: own, seq, cid, since, time, operations, blocks } = await t.checkCommit(it.previous, data(it.message))
+    return { commit: commit(own), seq, cid: `${cid}`, since, time, operations: rows(operations), blocks: blocks.map(one => [`${one.cid}`, packed(one.bytes)]) }
+  },
   tree_root: async it => {
     const { root, nodes } = await t.treeRoot(it.pairs)
     return [`${root}`, nodes]
@@ -99,6 +116,15 @@ const steps = {
     const { root, previous, commit } = await one.apply(it, it.writes.map(write))
     return { root: `${root}`, previous: `${previous}`, commit: `${commit}` }
   },
+  preview: async (one, it) => {
+    const { previous, root, unsigned, changes } = await one.preview(it, it.writes.map(write))
+    return { previous: `${previous}`, root: `${root}`, unsigned: hex(unsigned), changes: rows(changes) }
+  },
+  apply_signed: async (one, it) => {
+    const { previous, sig, seq, time, since } = it
+    return packed(await one.applySigned(it, it.writes.map(write), { previous, sig: data(sig), seq: BigInt(seq), time, since }))
+  },
+  rev: one => one.rev,
   close: one => one.close() ?? null,
   root: one => `${one.root}`,
   commit: one => text(one.commit),

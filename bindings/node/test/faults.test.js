@@ -129,6 +129,29 @@ test('of changes', async () => {
   one.close()
 })
 
+test('of commits, messages and signed batches', async () => {
+  const table = JSON.parse(fileBeside('cases.json')), root = t.Cid.parse(EMPTY)
+  // Hexadecimal in parts with a space between two, in which x*n stands for n times x.
+  const data = text => Buffer.concat(text.split(' ').map(it => it.split('*')).map(([part, count = 1]) => hex(part.repeat(count))))
+  const refused = call => table.calls.filter(it => it.call === call && it.fault)
+  for (const it of refused('read_commit')) await fails(() => t.readCommit(data(it.bytes)), t.CommitError, it.fault)
+  for (const it of refused('check_commit')) await fails(() => t.checkCommit(it.previous, data(it.message)), t.MessageError, it.fault, { place: it.place })
+  const one = t.Repository.open(9), told = { previous: root, sig: hex('00'), seq: 1, time: '2026-11-30T12:00:00Z', since: null }
+  const unsigned = (code, more, writes = [put()]) => fails(() => one.applySigned(stamp(1), writes, { ...told, ...more }), t.BatchError, code)
+  await unsigned('ROOT_MOVED', { previous: t.cidOf(hex('')) })
+  await unsigned('EMPTY_BATCH', {}, [])
+  await unsigned('BAD_SEQ', { seq: 2n ** 63n })
+  await unsigned('BAD_SINCE', { since: '1' })
+  await unsigned('SINCE_ORDER', { since: tid(1) })
+  await unsigned('BAD_TIME', { time: 'now' })
+  await fails(() => one.preview({ did: 'did:', rev: tid(1) }, [put()]), t.BatchError, 'BAD_DID', { place: 0 })
+  assert.deepEqual([one.number, one.rev], [0, null])
+  one.close()
+  await fails(() => one.rev, t.RepositoryError, 'CLOSED')
+  await fails(() => one.preview(stamp(1), [put()]), t.RepositoryError, 'CLOSED')
+  await fails(() => one.applySigned(stamp(1), [put()], told), t.RepositoryError, 'CLOSED')
+})
+
 test('of JSON, of links and of files', async () => {
   const table = JSON.parse(fileBeside('cases.json'))
   const calls = {
@@ -150,7 +173,7 @@ test('the codes are those of the header, and each was seen', () => {
   const named = Array.from(table.matchAll(/TIZULGECH_(\w+) = (\d+)/g), ([, name, number]) => [name, Number(number)])
   const own = readFileSync(new URL('../lib/faults.js', import.meta.url), 'utf8')
   for (const [name, number] of named) assert(name === 'DONE' || own.includes(`${number}: ['${name}'`), name)
-  // Those that are no faults to whoever calls from here, and those that want a clash, a full store or no memory.
+  // Those that are no faults to whoever calls from here, those that want a clash, a full store or no memory, and one that no accepted batch has.
   const unseen = named.map(([name]) => name).filter(name => !seen.has(name))
-  assert.deepEqual(unseen.sort(), ['BELOW', 'CLASH', 'DONE', 'FULL', 'NO_MEMORY', 'OPEN', 'SMALL'])
+  assert.deepEqual(unseen.sort(), ['BELOW', 'CLASH', 'DONE', 'FULL', 'NO_BATCH', 'NO_MEMORY', 'OPEN', 'SMALL'])
 })

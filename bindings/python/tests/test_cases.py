@@ -18,7 +18,7 @@ def whole(text):
 
 
 def data(text):
-    return bytes.fromhex(whole(text))
+    return b"".join(bytes.fromhex(whole(it)) for it in text.split(" "))
 
 
 def cid(text):
@@ -65,6 +65,31 @@ def tree_apply(nodes, root, changes):
     return {"root": str(edit.root), "add": sorted([str(it), node.hex()] for it, node in edit.add), "drop": sorted(map(str, edit.drop)), "previous": previous}
 
 
+def hexed(block):
+    """Bytes as the table has them: a long run of zeros is one word."""
+    return " ".join(f"00*{len(it)}" if len(it) > 999 and not any(it) else it.hex() for it in re.split(rb"(\0{1000,})", block) if it)
+
+
+def commit(it):
+    return {"did": it.did, "rev": it.rev, "root": str(it.root), "prev": text(it.prev), "sig": it.sig.hex(), "unsigned": it.unsigned.hex()}
+
+
+def operations(found):
+    return [[key.decode(), text(before), text(after)] for key, before, after in found]
+
+
+def check_commit(previous, message):
+    it = t.check_commit(cid(previous), data(message))
+    blocks = [[str(name), hexed(block)] for name, block in it.blocks]
+    told = {"seq": it.seq, "cid": str(it.cid), "since": it.since, "time": it.time, "operations": operations(it.operations), "blocks": blocks}
+    return {"commit": commit(it.commit), **told}
+
+
+def empty_account(did, rev, sig):
+    root = t.Cid.of(t.EMPTY_NODE)
+    signed = t.signed_commit(did, rev, root, data(sig))
+    top = t.Cid.of(signed)
+    return (t.file_head(top) + t.file_section(top, signed) + t.file_section(root, t.EMPTY_NODE)).hex()
 def node_entries(node):
     entries = t.node_entries(data(node))
     return {"left": text(entries.left), "pairs": [[key.decode(), str(value), text(link)] for key, value, link in entries.pairs]}
@@ -93,6 +118,13 @@ def open_car(limit, file):
 
 
 CALLS = {
+    "signed_commit": lambda did, rev, root, sig: t.signed_commit(did, rev, cid(root), data(sig)).hex(),
+    "next_tid": t.next_tid,
+    "read_commit": lambda bytes: commit(t.read_commit(data(bytes))),
+    "file_head": lambda root: t.file_head(cid(root)).hex(),
+    "file_section": lambda of, block: t.file_section(cid(of), data(block)).hex(),
+    "empty_account": empty_account,
+    "check_commit": check_commit,
     "record_fault": lambda bytes: t.check_record(data(bytes)),
     "write_fault": lambda write, there: t.check_write(globals()["write"](*write), there),
     "layer": lambda key: t.layer(key),
@@ -133,6 +165,16 @@ def apply(repository, did, rev, writes):
     return {"root": str(applied.root), "previous": str(applied.previous), "commit": str(applied.commit)}
 
 
+def preview(repository, did, rev, writes):
+    it = repository.preview(did, rev, [write(*it) for it in writes])
+    return {"previous": str(it.previous), "root": str(it.root), "unsigned": it.unsigned.hex(), "changes": operations(it.changes)}
+
+
+def apply_signed(repository, did, rev, writes, previous, sig, seq, time, since):
+    given = {"previous": cid(previous), "sig": data(sig), "seq": seq, "time": time, "since": since}
+    return hexed(repository.apply_signed(did, rev, [write(*it) for it in writes], **given))
+
+
 def get(repository, key):
     found = repository.get(key)
     return None if found is None else found.hex()
@@ -152,6 +194,9 @@ def car(repository):
 
 STEPS = {
     "apply": apply,
+    "preview": preview,
+    "apply_signed": apply_signed,
+    "rev": lambda repository: repository.rev,
     "close": lambda repository: repository.close(),
     "root": lambda repository: str(repository.root),
     "commit": lambda repository: text(repository.commit),

@@ -22,7 +22,7 @@ def public(of):
 class Documents(unittest.TestCase):
     def test_examples(self):
         found, names = re.findall(r"^```python\n(.*?)^```", read("bindings/python/README.md"), re.M | re.S), {}
-        self.assertEqual(len(found), 2)
+        self.assertEqual(len(found), 3)
         for it in found:
             exec(it, names)
         shown = re.search(r"\n\n((?:    .*\n|\n)+)", t.__doc__)[1]

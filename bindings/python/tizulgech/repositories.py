@@ -9,8 +9,9 @@ from . import _library
 from ._answers import Reader
 from ._arguments import Bytes, Text, bytes_of, number_of, text_of
 from .changes import ChangeProof, Key, Told, changes_of, ordered, proof_of, told_of
-from .cids import Cid
+from .cids import Cid, cid_of
 from .faults import Fault
+from .messages import Preview, preview_in
 from .nodes import links
 from .writes import Write, write_of
 
@@ -111,16 +112,50 @@ class Repository:
         did, rev, parts = text_of(did), text_of(rev), [write_of(write) for write in writes]
         with self._turn():
             try:
-                return self._applied(did, rev, parts)
+                self._stage(parts)
+                return self._applied(did, rev)
             except BaseException:
                 _library.call("clear", repository=self._raw)
                 raise
 
-    def _applied(self, did: bytes, rev: bytes, parts: Sequence[Tuple[int, bytes, bytes]]) -> Applied:
+    def preview(self, did: Text, rev: Text, writes: Iterable[Write]) -> Preview:
+        """What a batch would make of the repository, which stays as it is: the roots before and after, the bytes of its commit, which are signed,
+        and what each key has and will have. The faults are those of `apply`."""
+        given, parts = {"did": text_of(did), "rev": text_of(rev)}, [write_of(write) for write in writes]
+        return preview_in(Reader(self._staged("preview", parts, 512 + 256 * len(parts), **given)))
+
+    def apply_signed(self, did: Text, rev: Text, writes: Iterable[Write], *, previous: Cid, sig: Bytes, seq: int, time: Text, since: Optional[Text] = None) -> bytes:
+        """Accepts a batch whose commit was signed over the root `previous`, as `preview` told both, and answers the message #commit that tells of
+        it; or raises a fault and leaves all as it was.
+
+        `seq` is the message's number in the stream, `time` when it is sent, as 2026-11-30T12:00:00Z, and `since` the revision of the batch before,
+        if there was one. ROOT_MOVED says that another batch came since; the other faults are those of `apply`, and why no message can tell of the
+        batch: BAD_SEQ, BAD_SINCE, SINCE_ORDER, BAD_TIME, TOO_MANY_OPS, MESSAGE_RECORD_SIZE or BLOCKS_SIZE. Such a batch is accepted by `apply`.
+        """
+        parts = [write_of(write) for write in writes]
+        given = {"did": text_of(did), "rev": text_of(rev), "previous": cid_of(previous), "sig": bytes_of(sig), "seq": number_of(seq, 1 << 64)}
+        first = 4096 + sum(2048 + len(record) for _, _, record in parts)
+        return self._staged("apply_signed", parts, first, time=text_of(time), since=text_of(since or b""), **given)
+
+    def _staged(self, name: str, parts: Sequence[Tuple[int, bytes, bytes]], first: int, **given: Any) -> bytes:
+        """The answer of a call over writes that wait, of which none does afterwards."""
+        place = _library.size()
+        with self._turn():
+            try:
+                self._stage(parts)
+                return _library.filled(name, first=first, repository=self._raw, place=place, **given)
+            except Fault as fault:
+                raise Fault(fault.number, place.value) from None
+            finally:
+                _library.call("clear", repository=self._raw)
+
+    def _stage(self, parts: Sequence[Tuple[int, bytes, bytes]]) -> None:
         # What a second exception may have left.
         self._answered("clear")
         for kind, key, record in parts:
             self._answered("stage", kind=kind, key=key, record=record)
+
+    def _applied(self, did: bytes, rev: bytes) -> Applied:
         place, root, previous, commit = _library.size(), _library.room(), _library.room(), _library.room()
         given = {"did": did, "rev": rev, "place": place, "root": root, "previous": previous, "commit": commit}
         number = _library.call("apply", repository=self._raw, **given)
@@ -178,6 +213,16 @@ class Repository:
                 return None
             raise
         return Cid(commit.raw)
+
+    @property
+    def rev(self) -> Optional[str]:
+        """The revision of the last batch, or None before the first."""
+        try:
+            return self._filled("rev").decode()
+        except Fault as fault:
+            if fault.number == 24:
+                return None
+            raise
 
     @property
     def number(self) -> int:

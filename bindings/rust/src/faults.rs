@@ -53,9 +53,32 @@ const OF_ALL: Names = &[
     (104, "CAR_LENGTH"),
     (105, "CAR_TRUNCATED"),
     (106, "CAR_CID"),
+    (107, "MESSAGE_SIZE"),
+    (108, "NOT_A_MESSAGE"),
+    (109, "MESSAGE_CBOR"),
+    (110, "MESSAGE_NOT_A_MAP"),
+    (111, "BAD_FIELD"),
+    (112, "REBASE"),
+    (113, "TOO_BIG"),
+    (114, "TOO_MANY_OPS"),
+    (115, "BLOCKS_SIZE"),
+    (116, "BAD_SINCE"),
+    (117, "SINCE_ORDER"),
+    (118, "BAD_TIME"),
+    (119, "BAD_OP"),
+    (120, "DOUBLED_PATH"),
+    (121, "OTHER_PREVIOUS"),
+    (122, "NOT_THE_ROOT"),
     (123, "MISNAMED"),
     (124, "COMMIT_MISSING"),
+    (125, "OTHER_DID"),
+    (126, "OTHER_REV"),
     (127, "RECORD_MISSING"),
+    (128, "MESSAGE_RECORD_SIZE"),
+    (129, "NODE_MISSING"),
+    (130, "ROOT_MOVED"),
+    (131, "BAD_SEQ"),
+    (132, "NO_BATCH"),
     (252, "BAD"),
     (253, "CLASH"),
     (254, "FULL"),
@@ -391,6 +414,164 @@ impl fmt::Display for CheckError {
     }
 }
 impl Error for CheckError {}
+
+faults! {
+    /// Why there is no next timestamp identifier.
+    TidFault {
+        BadRev = 28 "the last one is not a timestamp identifier",
+        RevOrder = 29 "there is none after the last one",
+        Bad = 252 "the microseconds or the clock are out of range",
+    } named by OF_ALL
+}
+faults! {
+    /// Why bytes are no signed commit.
+    CommitFault {
+        NotACommit = 100 "the bytes are not those of a signed commit",
+        CommitDid = 101 "the DID of the commit is not one",
+        CommitRev = 102 "the revision of the commit is not a timestamp identifier",
+        NoMemory = 255 "out of memory",
+    } named by OF_ALL
+}
+faults! {
+    /// Why a message `#commit` isn't taken.
+    MessageFault {
+        Truncated = 1 "the bytes end within a value",
+        LongHead = 2 "a head is longer than it needs to be",
+        Indefinite = 3 "an indefinite length",
+        BadTag = 4 "a tag that isn't 42",
+        BadLink = 5 "a link that is no CID",
+        KeyNotText = 6 "a key of a map that isn't text",
+        KeyOrder = 7 "keys of a map that are out of order or stand twice",
+        BadUtf8 = 8 "text that isn't UTF-8",
+        Float = 9 "a floating-point number",
+        Simple = 10 "a simple value",
+        IntegerRange = 11 "an integer outside of 64 bits with sign",
+        TooDeep = 12 "values that are nested too deep",
+        Trailing = 13 "bytes after the value",
+        NotAMap = 21 "the record is not a map",
+        RecordSize = 22 "the record is too long",
+        BadDid = 27 "the DID is not one",
+        BadRev = 28 "the revision is not a timestamp identifier",
+        BadNode = 30 "a block is no node",
+        TooManyNodes = 31 "the path is longer than any tree is deep",
+        OtherValue = 33 "a key has another value",
+        OtherRoot = 34 "the changes lead to another root",
+        NotTree = 35 "the nodes aren't a tree's",
+        NotACommit = 100 "the bytes are not those of a signed commit",
+        CommitDid = 101 "the DID of the commit is not one",
+        CommitRev = 102 "the revision of the commit is not a timestamp identifier",
+        CarHeader = 103 "the file does not begin as a CAR with one root",
+        CarLength = 104 "the length of a section is not a number in its shortest form",
+        CarTruncated = 105 "the file ends within a section",
+        CarCid = 106 "a section does not begin with a CID of a block",
+        MessageSize = 107 "the message is too long",
+        NotAMessage = 108 "no message #commit",
+        MessageCbor = 109 "the message is not DAG-CBOR",
+        MessageNotAMap = 110 "the message is no map",
+        BadField = 111 "a field is missing or of another kind",
+        Rebase = 112 "a rebase",
+        TooBig = 113 "the message does not hold all",
+        TooManyOps = 114 "too many operations",
+        BlocksSize = 115 "the blocks have too many bytes",
+        BadSince = 116 "the revision before is not a timestamp identifier",
+        SinceOrder = 117 "the revision is not after the one before",
+        BadTime = 118 "the time is none",
+        BadOp = 119 "an operation is none",
+        DoubledPath = 120 "an operation has the path of another",
+        OtherPrevious = 121 "the repository had another root before",
+        NotTheRoot = 122 "the root of the blocks is not the commit",
+        Misnamed = 123 "a block has another CID",
+        CommitMissing = 124 "the commit is not among the blocks",
+        OtherDid = 125 "the commit is of another repository",
+        OtherRev = 126 "the commit has another revision",
+        RecordMissing = 127 "the record of an operation is missing",
+        MessageRecordSize = 128 "the record of an operation is too long for a message",
+        NodeMissing = 129 "a node that is needed is not in the message",
+        NoMemory = 255 "out of memory",
+    } named by OF_ALL
+}
+faults! {
+    /// Why a signed batch isn't accepted. Nothing has changed then.
+    SigningFault {
+        Truncated = 1 "the bytes end within a value",
+        LongHead = 2 "a head is longer than it needs to be",
+        Indefinite = 3 "an indefinite length",
+        BadTag = 4 "a tag that isn't 42",
+        BadLink = 5 "a link that is no CID",
+        KeyNotText = 6 "a key of a map that isn't text",
+        KeyOrder = 7 "keys of a map that are out of order or stand twice",
+        BadUtf8 = 8 "text that isn't UTF-8",
+        Float = 9 "a floating-point number",
+        Simple = 10 "a simple value",
+        IntegerRange = 11 "an integer outside of 64 bits with sign",
+        TooDeep = 12 "values that are nested too deep",
+        Trailing = 13 "bytes after the value",
+        BadKey = 20 "the key is not that of a record",
+        NotAMap = 21 "the record is not a map",
+        RecordSize = 22 "the record is too long",
+        KeyExists = 23 "the key is there already",
+        NoSuchKey = 24 "there is no such key",
+        WritesFull = 25 "the repository takes no more writes",
+        EmptyBatch = 26 "the batch is empty",
+        BadDid = 27 "the DID is not one",
+        BadRev = 28 "the revision is not a timestamp identifier",
+        RevOrder = 29 "the revision is not after the last one",
+        OtherValue = 33 "a key has another value",
+        MessageSize = 107 "the message is too long",
+        NotAMessage = 108 "no message #commit",
+        MessageCbor = 109 "the message is not DAG-CBOR",
+        MessageNotAMap = 110 "the message is no map",
+        BadField = 111 "a field is missing or of another kind",
+        Rebase = 112 "a rebase",
+        TooBig = 113 "the message does not hold all",
+        TooManyOps = 114 "too many operations",
+        BlocksSize = 115 "the blocks have too many bytes",
+        BadSince = 116 "the revision before is not a timestamp identifier",
+        SinceOrder = 117 "the revision is not after the one before",
+        BadTime = 118 "the time is none",
+        BadOp = 119 "an operation is none",
+        MessageRecordSize = 128 "the record of an operation is too long for a message",
+        RootMoved = 130 "the repository has another root than was signed over",
+        BadSeq = 131 "the number is none of the stream",
+        NoBatch = 132 "the repository has no batch",
+        Clash = 253 "two blocks clash",
+        StoreFull = 254 "the store is full",
+        NoMemory = 255 "out of memory",
+    } named by OF_ALL
+}
+/// Why a message isn't taken, and where.
+#[derive(Clone, Copy, Debug, PartialEq, Eq)]
+pub struct MessageError {
+    /// The first fault.
+    pub fault: MessageFault,
+    /// The place of an operation, or of a field in the order of DAG-CBOR; of `MessageCbor` the number of a [`RecordFault`]; else 0.
+    pub place: usize,
+    /// The CID of the node that is missing, or is none.
+    pub node: Option<Cid>,
+}
+
+impl fmt::Display for MessageError {
+    fn fmt(&self, f: &mut fmt::Formatter<'_>) -> fmt::Result {
+        write!(f, "{} ({}, at {})", self.fault, self.fault.name(), self.place)
+    }
+}
+impl Error for MessageError {}
+
+/// Why a signed batch isn't accepted, and where.
+#[derive(Clone, Copy, Debug, PartialEq, Eq)]
+pub struct SigningError {
+    /// The place of a write, or of an operation of the message, from 0; else 0.
+    pub place: usize,
+    /// The first fault.
+    pub fault: SigningFault,
+}
+
+impl fmt::Display for SigningError {
+    fn fmt(&self, f: &mut fmt::Formatter<'_>) -> fmt::Result {
+        write!(f, "{} ({}, at {})", self.fault, self.fault.name(), self.place)
+    }
+}
+impl Error for SigningError {}
 
 /// Why blocks don't show some changes.
 ///

@@ -97,6 +97,11 @@ impl<'a> Reader<'a> {
         self.take(length)
     }
 
+    /// A part that is text, as keys, DIDs, revisions and times are once they are taken.
+    pub fn text(&mut self) -> String {
+        String::from_utf8_lossy(self.part()).into_owned()
+    }
+
     /// All parts that are left.
     pub fn parts(mut self) -> Vec<Vec<u8>> {
         std::iter::from_fn(|| (!self.is_empty()).then(|| self.part().to_vec())).collect()

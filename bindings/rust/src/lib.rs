@@ -4,6 +4,8 @@
 //! - [`tree`] changes a tree whose nodes stand elsewhere, as in a database.
 //! - [`ChangeProof`] shows which keys changed from one root to the next to whoever knows the first, step by step; [`InversionProof`]
 //!   undoes changes, as the event stream's operation inversion does.
+//! - [`SignedCommit`] is written and read; [`Repository::preview`] and [`Repository::apply_signed`] accept a batch whose commit is
+//!   signed, with its message, and [`check_commit`] checks any message `#commit` of the event stream.
 //! - [`record_json`] and [`json_record`] are records as JSON, [`link_text`] the text of a blob's CID, and [`check_car`] tells whose
 //!   repository a file is the export of.
 //! - [`Cid`], [`check_record`], [`check_write`], [`check_stamp`], [`commit_bytes`], [`tree_root`], [`listing_car`] and [`Proof`] need no state.
@@ -54,8 +56,10 @@
 #![deny(unsafe_op_in_unsafe_fn)]
 
 mod changes;
+mod commits;
 mod faults;
 mod framing;
+mod messages;
 mod records;
 mod repository;
 #[allow(missing_docs)]
@@ -64,13 +68,16 @@ pub mod tree;
 mod values;
 
 pub use changes::{ChangeProof, InversionProof, KeyChange, ProvenChange};
+pub use commits::{SignedCommit, file_head, file_section};
 pub use faults::{
-    BatchError, BatchFault, ChangeFault, CheckError, CheckFault, CidFault, JsonError, JsonFault, LinkFault, NoMemory, NodeFault,
-    OpenError, ProofFault, ProvingFault, RecordFault, RecordJsonFault, StampFault, TreeFault,
+    BatchError, BatchFault, ChangeFault, CheckError, CheckFault, CidFault, CommitFault, JsonError, JsonFault, LinkFault,
+    MessageError, MessageFault, NoMemory, NodeFault, OpenError, ProofFault, ProvingFault, RecordFault, RecordJsonFault,
+    SigningError, SigningFault, StampFault, TidFault, TreeFault,
 };
+pub use messages::{CheckedCommit, Operation, Preview, Told, check_commit};
 pub use records::{Export, check_car, json_record, link_from_text, link_text, record_json};
 pub use repository::{Applied, CarParts, Pairs, Repository, Stamp, Write};
 pub use values::{
     Cid, Proof, VERSION, check_record, check_stamp, check_write, commit_bytes, is_did, is_key, is_repository_key, is_tid, layer,
-    listing_car, tree_root, version,
+    listing_car, next_tid, tree_root, version,
 };

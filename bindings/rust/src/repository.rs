@@ -1,7 +1,10 @@
 //! A repository in memory.
-use crate::changes::{InversionProof, KeyChange, ProvenChange, Told};
-use crate::faults::{BatchError, BatchFault, CheckError, CheckFault, NoMemory, OpenError, ProvingFault};
+use crate::changes::{self, InversionProof, KeyChange, ProvenChange};
+use crate::faults::{
+    BatchError, BatchFault, CheckError, CheckFault, NoMemory, OpenError, ProvingFault, SigningError, SigningFault,
+};
 use crate::framing::{Reader, filled};
+use crate::messages::{Preview, Told};
 use crate::sys;
 use crate::tree::{self, Link, links_of};
 use crate::values::{Cid, Proof};
@@ -141,6 +144,17 @@ impl Repository {
     /// # Ok::<(), Box<dyn std::error::Error>>(())
     /// ```
     pub fn apply(&mut self, stamp: Stamp<'_>, writes: &[Write<'_>]) -> Result<Applied, BatchError> {
+        self.stage(writes)?;
+        let (mut place, mut root, mut previous, mut commit) = (0, [0; 36], [0; 36], [0; 36]);
+        let (did, rev) = (stamp.did.as_bytes(), stamp.rev.as_bytes());
+        match self.handle.apply(did, rev, &mut place, &mut root, &mut previous, &mut commit) {
+            0 => Ok(Applied { root: Cid(root), previous: Cid(previous), commit: Cid(commit) }),
+            number => Err(BatchError { place, fault: BatchFault::of(number) }),
+        }
+    }
+
+    /// The writes of a batch wait for their stamp, or none does.
+    fn stage(&mut self, writes: &[Write<'_>]) -> Result<(), BatchError> {
         for write in writes {
             let (kind, key, record) = write.parts();
             if self.handle.stage(kind, key.as_bytes(), record) != 0 {
@@ -148,12 +162,37 @@ impl Repository {
                 return Err(BatchError { place: 0, fault: BatchFault::NoMemory });
             }
         }
-        let (mut place, mut root, mut previous, mut commit) = (0, [0; 36], [0; 36], [0; 36]);
-        let (did, rev) = (stamp.did.as_bytes(), stamp.rev.as_bytes());
-        match self.handle.apply(did, rev, &mut place, &mut root, &mut previous, &mut commit) {
-            0 => Ok(Applied { root: Cid(root), previous: Cid(previous), commit: Cid(commit) }),
-            number => Err(BatchError { place, fault: BatchFault::of(number) }),
+        Ok(())
+    }
+
+    /// What a batch would make of the repository, which stays as it is: the roots before and after, the bytes of its commit, which
+    /// are signed, and what each key has and will have. [`check_commit`](crate::check_commit) has an example.
+    pub fn preview(&mut self, stamp: Stamp<'_>, writes: &[Write<'_>]) -> Result<Preview, BatchError> {
+        self.stage(writes)?;
+        let (did, rev, mut place) = (stamp.did.as_bytes(), stamp.rev.as_bytes(), 0);
+        let found = filled(512 + 256 * writes.len(), |out, size| self.handle.preview(did, rev, &mut place, out, size));
+        self.handle.clear();
+        match found {
+            Ok(found) => Ok(Preview::of(Reader(&found))),
+            Err(number) => Err(BatchError { place, fault: BatchFault::of(number) }),
         }
+    }
+
+    /// Accepts a batch whose commit was signed, as [`preview`](Repository::preview) told it, and answers the message `#commit` that
+    /// tells of it; or refuses it, and leaves all as it was. A batch that no message can tell of is accepted by
+    /// [`apply`](Repository::apply).
+    pub fn apply_signed(&mut self, stamp: Stamp<'_>, writes: &[Write<'_>], told: Told<'_>) -> Result<Vec<u8>, SigningError> {
+        if self.stage(writes).is_err() {
+            return Err(SigningError { place: 0, fault: SigningFault::NoMemory });
+        }
+        let (did, rev, mut place) = (stamp.did.as_bytes(), stamp.rev.as_bytes(), 0);
+        let (time, since) = (told.time.as_bytes(), told.since.unwrap_or("").as_bytes());
+        let first = 4096 + writes.iter().map(|write| 2048 + write.parts().2.len()).sum::<usize>();
+        let message = filled(first, |out, size| {
+            self.handle.apply_signed(&told.previous.0, did, rev, told.sig, told.seq, time, since, &mut place, out, size)
+        });
+        self.handle.clear();
+        message.map_err(|number| SigningError { place, fault: SigningFault::of(number) })
     }
 
     /// The record of a key.
@@ -199,6 +238,12 @@ impl Repository {
     pub fn commit(&self) -> Option<Cid> {
         let mut commit = [0; 36];
         (self.handle.commit(&mut commit) == 0).then_some(Cid(commit))
+    }
+
+    /// The revision of the last batch.
+    pub fn rev(&self) -> Option<String> {
+        let rev = filled(13, |out, size| self.handle.rev(out, size)).ok()?;
+        String::from_utf8(rev).ok()
     }
 
     /// How many writes are accepted.
@@ -296,7 +341,7 @@ impl Repository {
     /// of it. To who doesn't know that some records have the root after it says nothing: [`prove_change`](Self::prove_change) shows
     /// a step.
     pub fn prove_inversion(&self, changes: &[KeyChange<'_>]) -> Result<InversionProof, ProvingFault> {
-        let (told, mut place) = (Told::of(changes), 0);
+        let (told, mut place) = (changes::Told::of(changes), 0);
         let bytes =
             filled(room_for_proof(changes.len()), |out, size| self.handle.prove_inversion(told.lists(), &mut place, out, size));
         let bytes = bytes.map_err(|number| ProvingFault::of(number, place))?;

@@ -245,6 +245,51 @@ unsafe extern "C" {
     pub fn tizulgech_link_from_text(text: *const u8, len: usize, out: *mut u8, room: usize, size: *mut usize) -> u8;
     pub fn tizulgech_check_car(file: *const u8, len: usize, place: *mut usize, out: *mut u8, room: usize, size: *mut usize)
     -> u8;
+    pub fn tizulgech_signed_commit(
+        did: *const u8,
+        did_len: usize,
+        rev: *const u8,
+        rev_len: usize,
+        root: *const u8,
+        root_len: usize,
+        sig: *const u8,
+        sig_len: usize,
+        out: *mut u8,
+        room: usize,
+        size: *mut usize,
+    ) -> u8;
+    pub fn tizulgech_read_commit(bytes: *const u8, len: usize, out: *mut u8, room: usize, size: *mut usize) -> u8;
+    pub fn tizulgech_file_head(root: *const u8, root_len: usize, out: *mut u8, room: usize, size: *mut usize) -> u8;
+    pub fn tizulgech_file_section(
+        cid: *const u8,
+        cid_len: usize,
+        block: *const u8,
+        block_len: usize,
+        out: *mut u8,
+        room: usize,
+        size: *mut usize,
+    ) -> u8;
+    pub fn tizulgech_next_tid(
+        last: *const u8,
+        last_len: usize,
+        micros: u64,
+        clock: u64,
+        out: *mut u8,
+        room: usize,
+        size: *mut usize,
+    ) -> u8;
+    pub fn tizulgech_check_commit(
+        previous: *const u8,
+        previous_len: usize,
+        message: *const u8,
+        message_len: usize,
+        place: *mut usize,
+        missing: *mut u8,
+        missing_room: usize,
+        out: *mut u8,
+        room: usize,
+        size: *mut usize,
+    ) -> u8;
     pub fn tizulgech_open(limit: usize, repository: *mut Raw) -> u8;
     pub fn tizulgech_open_car(limit: usize, file: *const u8, len: usize, repository: *mut Raw, place: *mut usize) -> u8;
     pub fn tizulgech_close(repository: *mut Raw);
@@ -336,6 +381,38 @@ unsafe extern "C" {
         befores_len: usize,
         afters: *const u8,
         afters_len: usize,
+        place: *mut usize,
+        out: *mut u8,
+        room: usize,
+        size: *mut usize,
+    ) -> u8;
+    pub fn tizulgech_rev(repository: *mut Raw, out: *mut u8, room: usize, size: *mut usize) -> u8;
+    pub fn tizulgech_preview(
+        repository: *mut Raw,
+        did: *const u8,
+        did_len: usize,
+        rev: *const u8,
+        rev_len: usize,
+        place: *mut usize,
+        out: *mut u8,
+        room: usize,
+        size: *mut usize,
+    ) -> u8;
+    pub fn tizulgech_apply_signed(
+        repository: *mut Raw,
+        previous: *const u8,
+        previous_len: usize,
+        did: *const u8,
+        did_len: usize,
+        rev: *const u8,
+        rev_len: usize,
+        sig: *const u8,
+        sig_len: usize,
+        seq: u64,
+        time: *const u8,
+        time_len: usize,
+        since: *const u8,
+        since_len: usize,
         place: *mut usize,
         out: *mut u8,
         room: usize,
@@ -750,6 +827,70 @@ pub fn listing_car(did: &[u8], rev: &[u8], keys: Parts<'_>, records: Parts<'_>, 
     }
 }
 
+pub fn signed_commit(did: &[u8], rev: &[u8], root: &Cid, sig: &[u8], out: &mut [u8], size: &mut usize) -> u8 {
+    // SAFETY: as above.
+    unsafe {
+        tizulgech_signed_commit(
+            did.as_ptr(),
+            did.len(),
+            rev.as_ptr(),
+            rev.len(),
+            root.as_ptr(),
+            36,
+            sig.as_ptr(),
+            sig.len(),
+            out.as_mut_ptr(),
+            out.len(),
+            size,
+        )
+    }
+}
+
+pub fn read_commit(bytes: &[u8], out: &mut [u8], size: &mut usize) -> u8 {
+    // SAFETY: as above.
+    unsafe { tizulgech_read_commit(bytes.as_ptr(), bytes.len(), out.as_mut_ptr(), out.len(), size) }
+}
+
+pub fn file_head(root: &Cid, out: &mut [u8], size: &mut usize) -> u8 {
+    // SAFETY: as above.
+    unsafe { tizulgech_file_head(root.as_ptr(), 36, out.as_mut_ptr(), out.len(), size) }
+}
+
+pub fn file_section(cid: &Cid, block: &[u8], out: &mut [u8], size: &mut usize) -> u8 {
+    // SAFETY: as above.
+    unsafe { tizulgech_file_section(cid.as_ptr(), 36, block.as_ptr(), block.len(), out.as_mut_ptr(), out.len(), size) }
+}
+
+pub fn next_tid(last: &[u8], micros: u64, clock: u64, out: &mut [u8], size: &mut usize) -> u8 {
+    // SAFETY: as above.
+    unsafe { tizulgech_next_tid(last.as_ptr(), last.len(), micros, clock, out.as_mut_ptr(), out.len(), size) }
+}
+
+pub fn check_commit(
+    previous: &Cid,
+    message: &[u8],
+    place: &mut usize,
+    missing: &mut Cid,
+    out: &mut [u8],
+    size: &mut usize,
+) -> u8 {
+    // SAFETY: as above, and room for 36 bytes.
+    unsafe {
+        tizulgech_check_commit(
+            previous.as_ptr(),
+            36,
+            message.as_ptr(),
+            message.len(),
+            place,
+            missing.as_mut_ptr(),
+            36,
+            out.as_mut_ptr(),
+            out.len(),
+            size,
+        )
+    }
+}
+
 /// A repository that is open, until it is dropped.
 ///
 /// Calls that only read write to it too, while they run. So it isn't `Sync`; and since no call calls back, one call at a
@@ -877,6 +1018,66 @@ impl Handle {
     pub fn prove(&self, key: &[u8], out: &mut [u8], size: &mut usize) -> u8 {
         // SAFETY: as above.
         unsafe { tizulgech_prove(self.raw.get(), key.as_ptr(), key.len(), out.as_mut_ptr(), out.len(), size) }
+    }
+
+    pub fn rev(&self, out: &mut [u8], size: &mut usize) -> u8 {
+        // SAFETY: as above.
+        unsafe { tizulgech_rev(self.raw.get(), out.as_mut_ptr(), out.len(), size) }
+    }
+
+    pub fn preview(&self, did: &[u8], rev: &[u8], place: &mut usize, out: &mut [u8], size: &mut usize) -> u8 {
+        // SAFETY: as above.
+        unsafe {
+            tizulgech_preview(
+                self.raw.get(),
+                did.as_ptr(),
+                did.len(),
+                rev.as_ptr(),
+                rev.len(),
+                place,
+                out.as_mut_ptr(),
+                out.len(),
+                size,
+            )
+        }
+    }
+
+    pub fn apply_signed(
+        &mut self,
+        previous: &Cid,
+        did: &[u8],
+        rev: &[u8],
+        sig: &[u8],
+        seq: u64,
+        time: &[u8],
+        since: &[u8],
+        place: &mut usize,
+        out: &mut [u8],
+        size: &mut usize,
+    ) -> u8 {
+        // SAFETY: as above.
+        unsafe {
+            tizulgech_apply_signed(
+                self.raw.get(),
+                previous.as_ptr(),
+                36,
+                did.as_ptr(),
+                did.len(),
+                rev.as_ptr(),
+                rev.len(),
+                sig.as_ptr(),
+                sig.len(),
+                seq,
+                time.as_ptr(),
+                time.len(),
+                since.as_ptr(),
+                since.len(),
+                place,
+                out.as_mut_ptr(),
+                out.len(),
+                size,
+            )
+        }
     }
 
     pub fn prove_change(&self, keys: Parts<'_>, values: &[u8], out: &mut [u8], size: &mut usize) -> u8 {

@@ -1,5 +1,5 @@
 //! Calls without state. Any number of threads may make them.
-use crate::faults::{BatchFault, CidFault, NoMemory, ProofFault, RecordFault, StampFault, TreeFault};
+use crate::faults::{BatchFault, CidFault, NoMemory, ProofFault, RecordFault, StampFault, TidFault, TreeFault};
 use crate::framing::{Joined, filled};
 use crate::repository::{Stamp, Write};
 use crate::sys;
@@ -178,6 +178,25 @@ pub fn check_stamp(before: Option<&str>, stamp: Stamp<'_>) -> Result<(), StampFa
     match sys::stamp_fault(before.unwrap_or("").as_bytes(), stamp.did.as_bytes(), stamp.rev.as_bytes()) {
         0 => Ok(()),
         number => Err(StampFault::of(number)),
+    }
+}
+
+/// The timestamp identifier after the last one, if there was one, at so many microseconds since 1970, below 2^53, by the clock of a
+/// number from 0 to 1,023. Where this time isn't after the last one, as where a clock has gone back, it is that of the microsecond
+/// behind the last one's: so it is always after the last one.
+///
+/// ```
+/// use tizulgech::{TidFault, next_tid};
+/// let first = next_tid(None, 1_700_000_000_000_000, 7)?;
+/// let next = next_tid(Some(&first), 1_600_000_000_000_000, 7)?; // the clock has gone back
+/// assert!(first < next && tizulgech::is_tid(&next));
+/// assert_eq!(next_tid(Some("1"), 0, 0), Err(TidFault::BadRev));
+/// # Ok::<(), TidFault>(())
+/// ```
+pub fn next_tid(last: Option<&str>, micros: u64, clock: u64) -> Result<String, TidFault> {
+    match filled(13, |out, size| sys::next_tid(last.unwrap_or("").as_bytes(), micros, clock, out, size)) {
+        Ok(letters) => Ok(letters.into_iter().map(char::from).collect()),
+        Err(number) => Err(TidFault::of(number)),
     }
 }
 

@@ -2,10 +2,14 @@
 //! where a repository is closed or a room too small. Refused memory is tried from C (`bindings/c/refuse_memory.c`).
 mod common;
 #[allow(dead_code)]
+#[path = "common/json.rs"]
+mod json;
+#[allow(dead_code)]
 #[path = "../src/sys.rs"]
 mod sys;
 
-use common::{DID, Random, change, from, hex, key, no_pairs, node_over, nodes_of_no_tree, record, tid};
+use common::{DID, Random, change, data, from, hex, key, no_pairs, node_over, nodes_of_no_tree, record, tid};
+use json::Json;
 use std::collections::{BTreeMap, BTreeSet};
 use std::ptr::null_mut;
 use sys::{Handle, Parts, Raw, Told};
@@ -35,6 +39,19 @@ const ANSWERS: &[(&str, &str)] = &[
     ("verify_inversion", "DONE MISSING BAD_NODE TOO_MANY_NODES NOT_TREE OTHER_VALUE OTHER_ROOT BAD"),
     ("tree_root", "DONE NOT_ASCENDING BAD"),
     ("listing_car", "DONE NOT_BUILT SMALL BAD"),
+    ("signed_commit", "DONE SMALL BAD"),
+    ("next_tid", "DONE SMALL BAD BAD_REV REV_ORDER"),
+    ("read_commit", "DONE SMALL NOT_A_COMMIT COMMIT_DID COMMIT_REV"),
+    ("file_head", "DONE SMALL BAD"),
+    ("file_section", "DONE SMALL BAD"),
+    (
+        "check_commit",
+        "DONE SMALL BAD MESSAGE_SIZE NOT_A_MESSAGE MESSAGE_CBOR MESSAGE_NOT_A_MAP BAD_FIELD REBASE TOO_BIG TOO_MANY_OPS BLOCKS_SIZE \
+         BAD_DID BAD_REV BAD_SINCE SINCE_ORDER BAD_TIME BAD_OP DOUBLED_PATH OTHER_PREVIOUS CAR_HEADER CAR_LENGTH CAR_TRUNCATED CAR_CID \
+         NOT_THE_ROOT MISNAMED COMMIT_MISSING NOT_A_COMMIT COMMIT_DID COMMIT_REV OTHER_DID OTHER_REV RECORD_MISSING MESSAGE_RECORD_SIZE \
+         TRUNCATED LONG_HEAD INDEFINITE BAD_TAG BAD_LINK KEY_NOT_TEXT KEY_ORDER BAD_UTF8 FLOAT SIMPLE INTEGER_RANGE TOO_DEEP TRAILING \
+         NOT_A_MAP NODE_MISSING BAD_NODE TOO_MANY_NODES NOT_TREE OTHER_VALUE OTHER_ROOT",
+    ),
     ("open", "DONE OPEN BAD"),
     ("stage", "DONE CLOSED BAD"),
     ("clear", "DONE CLOSED"),
@@ -57,6 +74,18 @@ const ANSWERS: &[(&str, &str)] = &[
     ("prove", "DONE SMALL CLOSED"),
     ("prove_change", "DONE SMALL CLOSED BAD"),
     ("prove_inversion", "DONE OTHER_VALUE SMALL CLOSED BAD"),
+    ("rev", "DONE NONE SMALL CLOSED"),
+    (
+        "preview",
+        "DONE TRUNCATED LONG_HEAD INDEFINITE BAD_TAG BAD_LINK KEY_NOT_TEXT KEY_ORDER BAD_UTF8 FLOAT SIMPLE INTEGER_RANGE TOO_DEEP TRAILING \
+         BAD_KEY NOT_A_MAP RECORD_SIZE KEY_EXISTS NONE WRITES_FULL EMPTY_BATCH BAD_DID BAD_REV REV_ORDER SMALL CLOSED",
+    ),
+    (
+        "apply_signed",
+        "DONE TRUNCATED LONG_HEAD INDEFINITE BAD_TAG BAD_LINK KEY_NOT_TEXT KEY_ORDER BAD_UTF8 FLOAT SIMPLE INTEGER_RANGE TOO_DEEP TRAILING \
+         BAD_KEY NOT_A_MAP RECORD_SIZE KEY_EXISTS NONE WRITES_FULL EMPTY_BATCH BAD_DID BAD_REV REV_ORDER SMALL CLOSED BAD ROOT_MOVED \
+         BAD_SEQ BAD_SINCE SINCE_ORDER BAD_TIME TOO_MANY_OPS MESSAGE_RECORD_SIZE BLOCKS_SIZE",
+    ),
 ];
 
 /// Bytes that are no record, in the order of the numbers.
@@ -121,6 +150,9 @@ fn each_answer_of_each_call() {
     values(seen);
     trees(seen);
     repositories(seen);
+    commits(seen);
+    messages(seen);
+    signed(seen);
     closed(seen);
     for (call, names) in ANSWERS {
         let wanted: BTreeSet<u8> = names.split_whitespace().map(|name| numbers[name]).collect();
@@ -372,11 +404,129 @@ fn repositories(seen: &mut Seen) {
     seen.see("car_length", handle.car_length(&mut 0));
 }
 
+fn commits(seen: &mut Seen) {
+    let (root, rev, size) = (*no_pairs().0.as_bytes(), tid(1), &mut 0);
+    let own = |did: &str, rev: &str| {
+        let (mut out, mut size) = ([0; 400], 0);
+        assert_eq!(sys::signed_commit(did.as_bytes(), rev.as_bytes(), &root, &[7; 64], &mut out, &mut size), 0);
+        out[..size].to_vec()
+    };
+    for (root, room) in [(root, 400), (root, 1), ([0; 36], 400)] {
+        let out = &mut vec![0; room][..];
+        seen.see("signed_commit", sys::signed_commit(DID.as_bytes(), rev.as_bytes(), &root, &[7; 64], out, size));
+        seen.see("file_head", sys::file_head(&root, out, size));
+        seen.see("file_section", sys::file_section(&root, tree::EMPTY_NODE, out, size));
+    }
+    for (last, clock, room) in [("", 7, 13), ("", 7, 12), ("", 1024, 13), ("1", 7, 13), ("bzzzzzzzzzzzz", 7, 13)] {
+        seen.see("next_tid", sys::next_tid(last.as_bytes(), 1, clock, &mut vec![0; room], size));
+    }
+    for (bytes, room) in
+        [(own(DID, &rev), 900), (own(DID, &rev), 1), (vec![], 900), (own("did:", &rev), 900), (own(DID, "1"), 900)]
+    {
+        seen.see("read_commit", sys::read_commit(&bytes, &mut vec![0; room], size));
+    }
+}
+
+/// The messages of the table of cases, of which each fault has one, and two faults that it leaves out.
+fn messages(seen: &mut Seen) {
+    let table = Json::read(include_str!("../../cases.json"));
+    let mut check = |previous: &sys::Cid, message: &[u8], room: usize| {
+        seen.see("check_commit", sys::check_commit(previous, message, &mut 0, &mut [0; 36], &mut vec![0; room], &mut 0))
+    };
+    for it in table["calls"].list().iter().filter(|it| it["call"].text() == "check_commit") {
+        let previous: Cid = it["previous"].text().parse().unwrap();
+        let number = check(previous.as_bytes(), &data(it["message"].text()), 1 << 22);
+        assert_eq!(Some(number), it.get("fault").map_or(Some(0), |fault| numbers().get(fault.text()).copied()), "{it:?}");
+        check(previous.as_bytes(), &data(it["message"].text()), 1);
+        check(&[0; 36], b"", 1);
+    }
+}
+
+fn signed(seen: &mut Seen) {
+    let (out, size, place) = (&mut vec![0; 4096][..], &mut 0, &mut 0);
+    let time = b"2026-11-30T12:00:00Z".as_slice();
+    let mut handle = Handle::open(300).unwrap();
+    let mut root = [0; 36];
+    assert_eq!(handle.root(&mut root), 0);
+    seen.see("rev", handle.rev(out, size));
+    let mut both = |handle: &mut Handle, did: &str, rev: &str| {
+        seen.see("preview", handle.preview(did.as_bytes(), rev.as_bytes(), &mut 0, &mut [0; 4096], &mut 0));
+        let number =
+            handle.apply_signed(&root, did.as_bytes(), rev.as_bytes(), &[7; 64], 1, time, b"", &mut 0, &mut [0; 4096], &mut 0);
+        handle.clear();
+        seen.see("apply_signed", number)
+    };
+    both(&mut handle, DID, &tid(2));
+    for bytes in no_records() {
+        handle.stage(0, KEY, &bytes);
+        both(&mut handle, DID, &tid(2));
+    }
+    let long = vec![0; 1_048_577];
+    for (kind, key, bytes) in [(0, &b"a"[..], &b"\xa0"[..]), (0, KEY, b"\xf5"), (0, KEY, &long), (3, KEY, b"")] {
+        assert_eq!(handle.stage(kind, key, bytes), 0);
+        both(&mut handle, DID, &tid(2));
+    }
+    for (did, rev) in [("did:", tid(2)), (DID, "1".into())] {
+        assert_eq!(handle.stage(0, KEY, b"\xa0"), 0);
+        both(&mut handle, did, &rev);
+    }
+    assert_eq!((handle.stage(1, KEY, b"\xa0"), handle.stage(1, KEY, b"\xa0")), (0, 0));
+    both(&mut handle, DID, &tid(2));
+    for _ in 0..301 {
+        assert_eq!(handle.stage(0, KEY, b"\xa0"), 0);
+    }
+    both(&mut handle, DID, &tid(2));
+    // what no message tells
+    let (did, rev) = (DID.as_bytes(), tid(2));
+    let mut apply = |handle: &mut Handle, previous: &sys::Cid, seq: u64, time: &[u8], since: &[u8], room: usize| {
+        let number =
+            handle.apply_signed(previous, did, rev.as_bytes(), &[7; 64], seq, time, since, &mut 0, &mut vec![0; room], &mut 0);
+        seen.see("apply_signed", number)
+    };
+    for at in 0..201 {
+        assert_eq!(handle.stage(0, key(at).as_bytes(), b"\xa0"), 0);
+    }
+    apply(&mut handle, &root, 1, time, b"", 4096);
+    handle.clear();
+    let head = |size: usize| [&b"\xa1\x61k\x5a"[..], &(size as u32).to_be_bytes(), &vec![0; size]].concat();
+    for sizes in [&[1_000_000][..], &[700_000, 700_001, 700_002]] {
+        for (at, size) in sizes.iter().enumerate() {
+            assert_eq!(handle.stage(0, key(at as u64).as_bytes(), &head(*size)), 0);
+        }
+        apply(&mut handle, &root, 1, time, b"", 4096);
+        handle.clear();
+    }
+    assert_eq!(handle.stage(1, KEY, b"\xa0"), 0);
+    apply(&mut handle, &[0; 36], 1, time, b"", 4096);
+    apply(&mut handle, Cid::of(b"").as_bytes(), 1, time, b"", 4096);
+    apply(&mut handle, &root, 1 << 63, time, b"", 4096);
+    apply(&mut handle, &root, 1, b"now", b"", 4096);
+    apply(&mut handle, &root, 1, time, b"1", 4096);
+    apply(&mut handle, &root, 1, time, tid(2).as_bytes(), 4096);
+    apply(&mut handle, &root, 1, time, b"", 9);
+    // the write still waits
+    assert_eq!(apply(&mut handle, &root, 1, time, tid(1).as_bytes(), 4096), 0);
+    seen.see("preview", handle.preview(did, tid(3).as_bytes(), place, out, size));
+    assert_eq!(handle.stage(1, KEY, b"\xa0"), 0);
+    assert_eq!(handle.root(&mut root), 0);
+    for rev in [2, 3] {
+        seen.see("preview", handle.preview(did, tid(rev).as_bytes(), place, out, size));
+        let number = handle.apply_signed(&root, did, tid(rev).as_bytes(), &[7; 64], 1, time, b"", place, out, size);
+        seen.see("apply_signed", number);
+    }
+    handle.clear();
+    assert_eq!(handle.stage(2, KEY, b"\xa1\x61k\x01"), 0);
+    for room in [4096, 9] {
+        seen.see("rev", handle.rev(&mut out[..room], size));
+        seen.see("preview", handle.preview(did, tid(3).as_bytes(), place, &mut out[..room], size));
+    }
+}
+
 type OfRepository = (&'static str, fn(*mut Raw) -> u8);
 
 /// Each call that takes a repository and answers a number, but `open`.
 // SAFETY: each is given a repository, slices, and room for CIDs.
-const OF_REPOSITORIES: [OfRepository; 17] = [
+const OF_REPOSITORIES: [OfRepository; 20] = [
     ("stage", |it| unsafe { sys::tizulgech_stage(it, 0, KEY.as_ptr(), KEY.len(), b"\xa0".as_ptr(), 1) }),
     ("clear", |it| unsafe { sys::tizulgech_clear(it) }),
     ("apply", |it| unsafe {
@@ -399,6 +549,14 @@ const OF_REPOSITORIES: [OfRepository; 17] = [
     ("prove_change", |it| unsafe {
         let (no, out, none) = (KEY.as_ptr(), [0; 99].as_mut_ptr(), [0; 1].as_ptr());
         sys::tizulgech_prove_change(it, no, 0, none, 0, no, 0, out, 99, &mut 0)
+    }),
+    ("rev", |it| unsafe { sys::tizulgech_rev(it, [0; 99].as_mut_ptr(), 99, &mut 0) }),
+    ("preview", |it| unsafe {
+        sys::tizulgech_preview(it, KEY.as_ptr(), 1, KEY.as_ptr(), 1, &mut 0, [0; 99].as_mut_ptr(), 99, &mut 0)
+    }),
+    ("apply_signed", |it| unsafe {
+        let (no, out) = (KEY.as_ptr(), [0; 99].as_mut_ptr());
+        sys::tizulgech_apply_signed(it, no, 0, no, 0, no, 0, no, 0, 0, no, 0, no, 0, &mut 0, out, 99, &mut 0)
     }),
     ("prove_inversion", |it| unsafe {
         let (no, out, none) = (KEY.as_ptr(), [0; 99].as_mut_ptr(), [0; 1].as_ptr());
@@ -463,10 +621,20 @@ fn small_rooms() {
         sys::listing_car(DID.as_bytes(), rev.as_bytes(), one(KEY, &[KEY.len()]), one(b"\xa0", &[1]), out, size)
     });
 
+    each_room(|out, size| sys::signed_commit(DID.as_bytes(), rev.as_bytes(), root.as_bytes(), &[7; 64], out, size));
+    each_room(|out, size| sys::next_tid(rev.as_bytes(), 1, 7, out, size));
+    each_room(|out, size| sys::file_head(root.as_bytes(), out, size));
+    each_room(|out, size| sys::file_section(root.as_bytes(), node, out, size));
+    let (mut commit, mut length) = ([0; 400], 0);
+    assert_eq!(sys::signed_commit(DID.as_bytes(), rev.as_bytes(), root.as_bytes(), &[7; 64], &mut commit, &mut length), 0);
+    each_room(|out, size| sys::read_commit(&commit[..length], out, size));
+
     let mut handle = opened();
     // A write that waits goes on waiting, and is done once.
     assert_eq!(handle.stage(0, b"a.b.c/e", b"\xa1\x61k\x01"), 0);
     each_room(|out, size| handle.get(KEY, out, size));
+    each_room(|out, size| handle.rev(out, size));
+    each_room(|out, size| handle.preview(DID.as_bytes(), tid(2).as_bytes(), &mut 0, out, size));
     each_room(|out, size| handle.list(b"", 9, out, size));
     each_room(|out, size| handle.car(out, size));
     each_room(|out, size| handle.prove(KEY, out, size));

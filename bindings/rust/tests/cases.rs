@@ -3,7 +3,6 @@ mod common;
 #[path = "common/json.rs"]
 mod json;
 
-use common::hex as bytes_of;
 use json::Json;
 use std::collections::BTreeMap;
 use tizulgech::*;
@@ -27,11 +26,36 @@ macro_rules! refused {
         })*
     };
 }
-refused!(RecordFault, CidFault, StampFault, TreeFault, ProofFault, NodeFault, BatchFault, OpenError);
+refused!(
+    RecordFault,
+    CidFault,
+    StampFault,
+    TidFault,
+    TreeFault,
+    ProofFault,
+    NodeFault,
+    BatchFault,
+    OpenError,
+    CommitFault,
+    MessageFault,
+    SigningFault
+);
 refused!(JsonFault, RecordJsonFault, LinkFault, CheckFault);
 
 impl From<BatchError> for Refused {
     fn from(it: BatchError) -> Refused {
+        Refused { place: Some(it.place), ..it.fault.into() }
+    }
+}
+
+impl From<MessageError> for Refused {
+    fn from(it: MessageError) -> Refused {
+        Refused { place: Some(it.place), cid: it.node, ..it.fault.into() }
+    }
+}
+
+impl From<SigningError> for Refused {
+    fn from(it: SigningError) -> Refused {
         Refused { place: Some(it.place), ..it.fault.into() }
     }
 }
@@ -85,7 +109,7 @@ fn whole(text: &str) -> String {
 }
 
 fn data(it: &Json) -> Vec<u8> {
-    bytes_of(&whole(it.text()))
+    common::data(it.text())
 }
 
 fn all_data(it: &Json) -> Vec<Vec<u8>> {
@@ -150,6 +174,59 @@ fn maybe(it: Option<Cid>) -> Json {
 
 fn hex(bytes: impl AsRef<[u8]>) -> Json {
     Json::Text(bytes.as_ref().iter().map(|byte| format!("{byte:02x}")).collect())
+}
+
+/// The same with long runs of zeros as one word.
+fn packed(bytes: &[u8]) -> Json {
+    let (mut words, mut left) = (Vec::new(), bytes);
+    while !left.is_empty() {
+        let begin = left.windows(1000).position(|it| it.iter().all(|byte| *byte == 0)).unwrap_or(left.len());
+        let (front, rest) = left.split_at(begin);
+        let zeros = rest.iter().take_while(|byte| **byte == 0).count();
+        if let (Json::Text(word), false) = (hex(front), front.is_empty()) {
+            words.push(word);
+        }
+        if zeros > 0 {
+            words.push(format!("00*{zeros}"));
+        }
+        left = &rest[zeros..];
+    }
+    Json::Text(words.join(" "))
+}
+
+fn commit(it: &SignedCommit) -> Json {
+    let (did, rev, sig, unsigned) = (text(&it.did), text(&it.rev), hex(&it.sig), hex(&it.unsigned));
+    map([("did", did), ("rev", rev), ("root", text(it.root)), ("prev", maybe(it.prev)), ("sig", sig), ("unsigned", unsigned)])
+}
+
+fn operations(of: &[Operation]) -> Json {
+    list(of.iter().map(|it| list([text(&it.key), maybe(it.before), maybe(it.after)])))
+}
+
+fn checked(it: &CheckedCommit) -> Json {
+    map([
+        ("commit", commit(&it.commit)),
+        ("seq", number(it.seq)),
+        ("cid", text(it.cid)),
+        ("since", it.since.as_ref().map_or(Json::Null, text)),
+        ("time", text(&it.time)),
+        ("operations", operations(&it.operations)),
+        ("blocks", list(it.blocks.iter().map(|(cid, block)| list([text(cid), packed(block)])))),
+    ])
+}
+
+/// The file of an account without records.
+fn empty_account(it: &Json) -> Result<Vec<u8>, Refused> {
+    let root = tree::EMPTY_ROOT.parse()?;
+    let signed = SignedCommit::bytes_of(stamp(it), &root, &data(&it["sig"]))?;
+    let top = Cid::of(&signed);
+    Ok([file_head(&top)?, file_section(&top, &signed)?, file_section(&root, tree::EMPTY_NODE)?].concat())
+}
+
+/// What a message tells beside a batch.
+fn beside<'a>(it: &'a Json, previous: &'a Cid, sig: &'a [u8]) -> Told<'a> {
+    let since = (it["since"] != Json::Null).then(|| it["since"].text());
+    Told { previous, sig, seq: it["seq"].number(), time: it["time"].text(), since }
 }
 
 fn list(of: impl IntoIterator<Item = Json>) -> Json {
@@ -237,6 +314,16 @@ fn call(it: &Json) -> Result<Json, Refused> {
             done(check_stamp((!before.is_empty()).then_some(before), stamp(it))?)
         }
         "commit_bytes" => hex(commit_bytes(stamp(it), &cid(&it["root"]))?),
+        "signed_commit" => hex(SignedCommit::bytes_of(stamp(it), &cid(&it["root"]), &data(&it["sig"]))?),
+        "next_tid" => {
+            let last = it["last"].text();
+            text(next_tid((!last.is_empty()).then_some(last), it["micros"].number(), it["clock"].number())?)
+        }
+        "read_commit" => commit(&SignedCommit::read(&data(&it["bytes"]))?),
+        "file_head" => hex(file_head(&cid(&it["root"]))?),
+        "file_section" => hex(file_section(&cid(&it["of"]), &data(&it["block"]))?),
+        "empty_account" => hex(empty_account(it)?),
+        "check_commit" => checked(&check_commit(&cid(&it["previous"]), &data(&it["message"]))?),
         "tree_root" => {
             let (root, nodes) = tree_root(&it["pairs"].list().iter().map(pair).collect::<Vec<_>>())?;
             list([text(root), number(nodes)])
@@ -323,14 +410,30 @@ fn calls() {
     }
 }
 
-fn step(repository: &mut Repository, it: &Json) -> Result<Json, Refused> {
+fn batch(repository: &mut Repository, it: &Json) -> Result<Json, Refused> {
+    let records: Vec<Vec<u8>> = it["writes"].list().iter().map(record).collect();
+    let writes: Vec<Write> = it["writes"].list().iter().zip(&records).map(|(it, record)| write(it, record)).collect();
     Ok(match it["call"].text() {
         "apply" => {
-            let records: Vec<Vec<u8>> = it["writes"].list().iter().map(record).collect();
-            let writes: Vec<Write> = it["writes"].list().iter().zip(&records).map(|(it, record)| write(it, record)).collect();
             let applied = repository.apply(stamp(it), &writes)?;
             map([("root", text(applied.root)), ("previous", text(applied.previous)), ("commit", text(applied.commit))])
         }
+        "preview" => {
+            let found = repository.preview(stamp(it), &writes)?;
+            let (root, changes) = (text(found.root), operations(&found.changes));
+            map([("previous", text(found.previous)), ("root", root), ("unsigned", hex(&found.unsigned)), ("changes", changes)])
+        }
+        _ => {
+            let (previous, sig) = (cid(&it["previous"]), data(&it["sig"]));
+            packed(&repository.apply_signed(stamp(it), &writes, beside(it, &previous, &sig))?)
+        }
+    })
+}
+
+fn step(repository: &mut Repository, it: &Json) -> Result<Json, Refused> {
+    Ok(match it["call"].text() {
+        "apply" | "preview" | "apply_signed" => return batch(repository, it),
+        "rev" => repository.rev().map_or(Json::Null, text),
         "root" => text(repository.root()),
         "commit" => maybe(repository.commit()),
         "number" => number(repository.number()),

@@ -4,7 +4,8 @@ ghost use Rattle.std.specs.Prelude.{◌≡◌, ◌<◌, ◌≤◌, true, length,
 ghost use Rattle.sha2.specs.Sha256.{sha256};
 ghost use Rattle.spec.specs.States.{IsLawful, after_batch, fresh, state_test};
 ghost use Rattle.repo.specs.Fulls.{fulls_after_batch, fulls_after_step, is_full};
-ghost use Rattle.repo.specs.Refusals.{IsRefusal, IsApplied, IsOpenRefusal};
+ghost use Rattle.repo.specs.Prepared.{IsPassed, prepared_of, state_after};
+ghost use Rattle.repo.specs.Refusals.{IsRefusal, IsApplied, IsOpenRefusal, IsStoreRefusal, IsTestRefusal};
 ghost use Rattle.batches.specs.Values.{stamp_of, write_of, writes_of};
 ghost use Rattle.batches.specs.declared.fault.RepoFault.TheVariants as faults;
 ghost use Rattle.repository_check.specs.Views.{records_of};
@@ -17,7 +18,7 @@ use crate::own_shards::OwnShards;
 use batches::{RepoFault, Stamp, Write};
 use checked_opening::open_checked;
 use cid::Sha256;
-use repo::{Applied, Core};
+use repo::{Applied, Core, PreparedBatch};
 use std::alloc::{AllocError, Global};
 use std::marker::Model;
 use std::mem::replace;
@@ -113,6 +114,30 @@ impl OwnedRepo {
         &self.core
     }
 
+    /// The writes that wait for a stamp, in their order.
+    pub fn pending(&self) -> &[Write]
+        ensures { writes_of result.now ≡ self.now.pending }
+    {
+        &self.pending
+    }
+
+    /// Tests the writes that wait as one batch under this stamp, and makes what it tells. All stays as it is, and they still wait.
+    /// It is refused as `Core::prepare` says.
+    pub fn prepare(
+        &self,
+        alloc: Global,
+        stamp: &Stamp,
+    ) -> Result<PreparedBatch<Sha256, 2>, (usize, RepoFault<Sha256>)>
+        ensures prepared { IfOk result (λ prepared. prepared
+            ≡ prepared_of self.now.state (stamp_of stamp.now) self.now.pending) }
+        ensures passed { IfOk result IsPassed }
+        ensures fault { IfErr result (IsTestRefusal sha256 2 self.now.state
+            (stamp_of stamp.now) self.now.pending) }
+        ensures lawful { IsLawful self.now.state }
+    {
+        self.core.prepare(alloc, stamp, &self.pending)
+    }
+
     /// One more write waits for a stamp.
     pub fn stage(&mut self, write: Write) -> Result<(), AllocError>
         ensures staged { OnOk result (self.new ≡ staged self.old (write_of write)) }
@@ -150,6 +175,33 @@ impl OwnedRepo {
         let writes = replace(&mut self.pending, Vec::new(alloc));
         apply_in(&mut self.core, &mut self.store, alloc, stamp, &writes)
     }
+
+    /// Accepts a batch of the writes that wait, as it was prepared on the repository as it is now. None waits afterwards. Where it
+    /// is refused all is as before, and they still wait. `RepoFault::StoreFull` comes only where a shard of its store has
+    /// 1,048,576 blocks.
+    pub fn accept(
+        &mut self,
+        alloc: Global,
+        prepared: PreparedBatch<Sha256, 2>,
+    ) -> Result<Applied, (usize, RepoFault<Sha256>)>
+        requires same { prepared.before ≡ self.old.state }
+        requires waiting { prepared.writes ≡ self.old.pending }
+        ensures accepted { OnOk result (self.new ≡ applied self.old prepared.stamp) }
+        ensures applied { IfOk result (IsApplied sha256 2 self.old.state self.new.state) }
+        ensures unchanged { OnErr result (self.new ≡ self.old) }
+        ensures fault { IfErr result (IsStoreRefusal sha256 2 self.old.state
+            prepared.stamp prepared.writes 0 (fulls_after_batch 0 result)) }
+        ensures full { IfErr result
+            (λ refusal. is_full refusal.1 ≡ true → WasFull sha256 1048576) }
+    {
+        match accept_in(&mut self.core, &mut self.store, prepared) {
+            Ok(applied) => {
+                self.clear(alloc);
+                Ok(applied)
+            }
+            Err(refusal) => Err(refusal),
+        }
+    }
 }
 
 /// The same of writes that are given.
@@ -173,4 +225,22 @@ fn apply_in(
         (λ refusal. is_full refusal.1 ≡ true → WasFull sha256 1048576) }
 {
     core.apply(alloc, store, stamp, writes)
+}
+
+/// The same of what was prepared.
+fn accept_in(
+    core: &mut Core<Sha256, 2>,
+    store: &mut OwnShards,
+    prepared: PreparedBatch<Sha256, 2>,
+) -> Result<Applied, (usize, RepoFault<Sha256>)>
+    requires same { prepared.before ≡ core.old }
+    ensures accepted { OnOk result (core.new ≡ state_after prepared) }
+    ensures applied { IfOk result (IsApplied sha256 2 core.old core.new) }
+    ensures unchanged { OnErr result (core.new ≡ core.old) }
+    ensures fault { IfErr result (IsStoreRefusal sha256 2 core.old
+        prepared.stamp prepared.writes 0 (fulls_after_batch 0 result)) }
+    ensures full { IfErr result
+        (λ refusal. is_full refusal.1 ≡ true → WasFull sha256 1048576) }
+{
+    core.accept(store, prepared)
 }

@@ -29,7 +29,7 @@ last-false false true c e = absurd cc
 last-false false false c e = e
 
 -- and isn't 255
-not-255 : (code : ℕ) → is_other code ≡ false → nat_eq code 255 ≡ false
+pub not-255 : (code : ℕ) → is_other code ≡ false → nat_eq code 255 ≡ false
 not-255 code e = last-false (nat_eq code 253) (nat_eq code 254) (nat_eq code 255) e
 
 -- each number of a fault is 32, or none that a test gives

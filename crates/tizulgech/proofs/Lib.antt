@@ -9,6 +9,10 @@ mod Handing
 mod Knowing
 mod Causes
 mod Going
+mod CommitNumbers
+mod EventNumbers
+mod Tested
+mod SignedBatches
 mod Listing
 mod Texts
 mod Hosting

@@ -7,6 +7,9 @@ pub mod Below
 pub mod Changing
 pub mod Inverting
 pub mod Parting
+pub mod Signing
+pub mod Messages
+pub mod SignedBatches
 pub mod NodeEntries
 pub mod HostedChanges
 pub mod RecordTexts

@@ -9,6 +9,8 @@
 //! - `verdicts` has those that check changes between two roots, done or undone; `changes` has the one that proves what changes
 //!   make of a repository, and `inversions` the one that proves changes undone. `told_changes` reads what all of them are told,
 //!   and tells verdicts.
+//! - `signed`, `file_parts`, `revisions` and `next_tids` have those for signed commits; `previews` and `signing` those for a batch that is signed
+//!   before it is accepted; `commit_checks` has the check of a message `#commit`, which `messages` spells and `message_faults` numbers.
 #![tactic(auto)]
 
 mod below;
@@ -16,22 +18,31 @@ mod changes;
 mod checked_files;
 mod cids;
 mod codes;
+mod commit_checks;
 mod differing;
 mod edits;
+mod file_parts;
 mod files;
 mod hosted_changes;
 mod inversions;
 mod lacking;
 mod listings;
+mod message_faults;
+mod messages;
+mod next_tids;
 mod node_entries;
 mod nodes;
 mod opening;
 mod opening_files;
 mod pages;
+mod previews;
 mod proving;
 mod reading;
 mod record_texts;
+mod revisions;
 mod sections;
+mod signed;
+mod signing;
 mod staging;
 mod stamps;
 mod told_changes;

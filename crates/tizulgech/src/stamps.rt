@@ -1,6 +1,6 @@
 //! Stamps and commits, with no state.
 
-ghost use Rattle.std.specs.Prelude.{◌≡◌, Some, IfOk};
+ghost use Rattle.std.specs.Prelude.{◌≡◌, Some, option_map, IfOk};
 ghost use Rattle.spec.specs.Commits.{commit_bytes as commit_bytes_of};
 ghost use Rattle.spec.specs.Stamps.{is_did as is_did_of, is_tid as is_tid_of, stamp_test};
 ghost use Rattle.batches.specs.Values.{stamp_of};
@@ -47,6 +47,16 @@ pub extern "C" fn tizulgech_stamp_fault(before: &[u8], did: &[u8], rev: &[u8]) -
         return 29;
     }
     DONE
+}
+
+/// A revision, where these aren't no bytes.
+pub(crate) fn some_rev(rev: &[u8]) -> Option<&[u8]>
+    ensures { option_map (λ rev. rev.now) result ≡ last_rev rev.now }
+{
+    if rev.is_empty() {
+        return None;
+    }
+    Some(rev)
 }
 
 /// The stamp of these bytes.

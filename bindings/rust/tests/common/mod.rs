@@ -25,6 +25,12 @@ pub fn hex(text: &str) -> Vec<u8> {
     (0..text.len()).step_by(2).map(|at| u8::from_str_radix(&text[at..at + 2], 16).unwrap()).collect()
 }
 
+/// Bytes as the table of cases has them: parts with a space between two, in which x*n stands for n times x.
+pub fn data(text: &str) -> Vec<u8> {
+    let part = |it: &str| it.split_once('*').map_or_else(|| hex(it), |(one, count)| hex(one).repeat(count.parse().unwrap()));
+    text.split(' ').flat_map(part).collect()
+}
+
 pub fn key(number: u64) -> String {
     format!("app.bsky.feed.post/{}", &Cid::of(&number.to_be_bytes()).to_string()[20..33])
 }

@@ -1,0 +1,2 @@
+pub mod Tids
+pub mod Views
