@@ -189,7 +189,7 @@ fn the_worked_batch_signed(rt: HostRuntime) {
 #[test]
 fn a_full_store(rt: HostRuntime) {
     let alloc = rt.alloc();
-    let mut shard = Shard::new(alloc, 11, TableKey::known());
+    let mut shard = Shard::new(alloc, 14, TableKey::known());
     let mut core = opened(&rt, alloc, &mut shard);
     let begun = begins(alloc, &mut shard, &mut core);
     let full = is_left(
