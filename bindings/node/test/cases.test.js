@@ -156,6 +156,8 @@ async function see(it, call) {
   try {
     answer = await call(it)
   } catch (error) {
+    // A count that no number of JavaScript is exactly doesn't reach the library.
+    if (it.fault === 'BAD' && !Number.isSafeInteger(it.micros ?? 0)) return assert(error instanceof RangeError, said)
     assert(error instanceof TizulgechError, `${said}: ${error?.stack}`)
     assert.deepEqual([error.code, error.number], [it.fault, table.faults[error.code]], said)
     for (const name of ['place', 'cid', 'path']) if (name in it && it.fault !== 'CLOSED') assert.equal(`${error[name] ?? 0}`, `${it[name]}`, said)
