@@ -1,9 +1,12 @@
 //! Batches in two steps: what one tells before it is accepted, beside trees from scratch and beside the edit over just the nodes
 //! that it read, and that nothing stays of one that is let go or refused. Each request for memory is refused in turn.
 
+ghost use Rattle.std.specs.Prelude.{◌≡◌, ◌≤◌};
+
 use crate::opened::opened;
 use crate::stores::Heap;
-use batches::commit_bytes;
+use crate::turns::pairs_of;
+use batches::{RepoFault, commit_bytes};
 use block::Block;
 use cid::digests::{Size, Toy};
 use cid::{Cid, Digest};
@@ -14,9 +17,10 @@ use repo::{Core, PreparedBatch};
 use repo_fixtures::batch::Step::{Create, Delete, Put, Update};
 use repo_fixtures::batch::{Batch, EMPTY, ONE, Step, TWO, batch_at};
 use repo_fixtures::cores::{apply_steps, counts, end, held};
-use repo_fixtures::ends::Ended::{Accepted, Refused};
+use repo_fixtures::ends::Ended::{Accepted, Refused, Unmade};
 use repo_fixtures::ends::{Ended, Why, end_of, why_of};
 use repo_fixtures::trees::{is_of, tree_of};
+use scratch::Built;
 use std::alloc::{AllocError, Allocator, Global};
 use std::process::Abort;
 use std::sync::Arc;
@@ -67,16 +71,12 @@ const CHANGED: [(&[u8], Option<&[u8]>, Option<&[u8]>); 4] = [
 /// The records that it brings.
 const BROUGHT: [&[u8]; 3] = [ONE, TWO, ONE];
 
-/// The pairs of some records.
-fn pairs_of<D: Digest>(
-    alloc: Global,
-    records: &[Record],
-) -> Result<Vec<(&'static [u8], Cid)>, AllocError> {
-    let mut pairs = Vec::new(alloc);
-    for (key, record) in records {
-        pairs.push((*key, Cid::of::<D>(record)))?;
+/// The tree from scratch of some records.
+fn tree_from(alloc: Global, records: &[Record]) -> Option<Built<Toy>> {
+    match pairs_of::<Toy>(alloc, records) {
+        Ok(pairs) => tree_of::<Toy, 2, _>(alloc, &pairs),
+        Err(_) => None,
     }
-    Ok(pairs)
 }
 
 /// The CID of a record, where there is one.
@@ -131,32 +131,27 @@ fn are_lacking<D: Digest>(
 
 /// Whether the roots are those of the trees from scratch before and after, and the nodes that come and go those by which they
 /// differ.
-fn has_trees<A: Allocator>(
-    alloc: Global,
-    prepared: &PreparedBatch<Toy, 2, A>,
-) -> Result<bool, AllocError> {
-    let before = pairs_of::<Toy>(alloc, &BEFORE)?;
-    let after = pairs_of::<Toy>(alloc, &AFTER)?;
-    let (Some(old), Some(new)) = (
-        tree_of::<Toy, 2, _>(alloc, &before),
-        tree_of::<Toy, 2, _>(alloc, &after),
-    ) else {
-        return Ok(false);
+fn has_trees(alloc: Global, prepared: &PreparedBatch<Toy, 2>) -> bool {
+    let Some(old) = tree_from(alloc, &BEFORE) else {
+        return false;
     };
-    let come = cids_of(alloc, prepared.nodes_added())?;
-    Ok(
-        prepared.previous() == old.root
-            && prepared.root() == new.root
-            && are_lacking(&come, &new.blocks, &old.blocks)
-            && are_lacking(prepared.nodes_dropped(), &old.blocks, &new.blocks),
-    )
+    let Some(new) = tree_from(alloc, &AFTER) else {
+        return false;
+    };
+    let Ok(come) = cids_of(alloc, prepared.nodes_added()) else {
+        return false;
+    };
+    prepared.previous() == old.root
+        && prepared.root() == new.root
+        && are_lacking(&come, &new.blocks, &old.blocks)
+        && are_lacking(prepared.nodes_dropped(), &old.blocks, &new.blocks)
 }
 
 /// Whether its commit is that of its stamp and the root after it, and its records are those that it brings.
-fn has_blocks<A: Allocator + Copy>(
+fn has_blocks(
     alloc: Global,
     batch: &Batch<Global>,
-    prepared: &PreparedBatch<Toy, 2, A>,
+    prepared: &PreparedBatch<Toy, 2>,
 ) -> Result<bool, AllocError> {
     let commit = commit_bytes(alloc, &batch.stamp, prepared.root())?;
     let mut wanted = BROUGHT.iter();
@@ -175,10 +170,7 @@ fn has_blocks<A: Allocator + Copy>(
 }
 
 /// Whether it tells the keys that it changes.
-fn has_changes<A: Allocator + Copy>(
-    alloc: A,
-    prepared: &PreparedBatch<Toy, 2, A>,
-) -> Result<bool, AllocError> {
+fn has_changes(alloc: Global, prepared: &PreparedBatch<Toy, 2>) -> Result<bool, AllocError> {
     let mut wanted = CHANGED.iter();
     for change in &prepared.changes(alloc)? {
         match wanted.next() {
@@ -193,7 +185,7 @@ fn has_changes<A: Allocator + Copy>(
 }
 
 /// Whether the edit over just the nodes that it read comes to the root after it, and reads them in their order.
-fn is_read(alloc: Global, prepared: &PreparedBatch<Toy, 2, Global>) -> Result<bool, AllocError> {
+fn is_read(alloc: Global, prepared: &PreparedBatch<Toy, 2>) -> Result<bool, AllocError> {
     let mut changes = Vec::new(alloc);
     for (key, _, after) in &CHANGED {
         changes.push(Change {
@@ -214,68 +206,108 @@ fn is_read(alloc: Global, prepared: &PreparedBatch<Toy, 2, Global>) -> Result<bo
     }
 }
 
-/// Whether the repository as it will be is lent: each node of its tree from scratch, its records and its commit.
-fn is_lent(
-    alloc: Global,
-    core: &Core<Toy, 2, Global>,
-    prepared: &PreparedBatch<Toy, 2, Global>,
-) -> Result<bool, AllocError> {
-    let after = pairs_of::<Toy>(alloc, &AFTER)?;
-    let Some(tree) = tree_of::<Toy, 2, _>(alloc, &after) else {
-        return Ok(false);
-    };
-    let Ok(mut lender) = core.lender_with(alloc, prepared) else {
-        return Ok(false);
-    };
-    for block in &tree.blocks {
-        match lender.get(&block.cid()) {
-            Some(found) if found.bytes() == block.bytes() => {}
-            _ => return Ok(false),
-        }
+/// Whether a block is found, with these bytes.
+fn is_block(found: Option<&Arc<Block<Toy>>>, bytes: &[u8]) -> bool {
+    match found {
+        Some(block) => block.bytes() == bytes,
+        None => false,
     }
-    for (key, record) in &AFTER {
-        let value = lookups::get::<Toy, 2, Global, _>(&mut lender, tree.root, key);
-        match lender.get(&value.unwrap_or(tree.root)) {
-            Some(found) if found.bytes() == *record => {}
-            _ => return Ok(false),
-        }
-    }
-    let commit = prepared.commit_block().cid();
-    Ok(
-        lender
-            .get(&commit)
-            .is_some_and(|found| found.cid() == commit),
-    )
 }
 
-/// Whether all that a prepared batch tells is so.
+/// Whether each node is lent of the tree from scratch of the repository as it will be.
+fn lends_tree<'a>(
+    alloc: Global,
+    core: &'a Core<Toy, 2>,
+    prepared: &'a PreparedBatch<Toy, 2>,
+) -> bool
+    requires same { prepared.now.before ≡ core.now }
+{
+    let Some(tree) = tree_from(alloc, &AFTER) else {
+        return false;
+    };
+    let Ok(mut lender) = core.lender_with(alloc, prepared) else {
+        return false;
+    };
+    for block in &tree.blocks {
+        if !is_block(lender.get(&block.cid()), block.bytes()) {
+            return false;
+        }
+    }
+    true
+}
+
+/// Whether its records are lent, where look-ups over what is lent find them, and its commit.
+fn lends_records<'a>(
+    alloc: Global,
+    core: &'a Core<Toy, 2>,
+    prepared: &'a PreparedBatch<Toy, 2>,
+) -> bool
+    requires same { prepared.now.before ≡ core.now }
+{
+    let Ok(mut lender) = core.lender_with(alloc, prepared) else {
+        return false;
+    };
+    let root = prepared.root();
+    for (key, record) in &AFTER {
+        let Some(value) = lookups::get::<Toy, 2, Global, _>(&mut lender, root, key) else {
+            return false;
+        };
+        if !is_block(lender.get(&value), record) {
+            return false;
+        }
+    }
+    let commit = prepared.commit_block();
+    is_block(lender.get(&commit.cid()), commit.bytes())
+}
+
+/// Whether what a prepared batch tells by itself is so.
 fn is_told(
     alloc: Global,
     batch: &Batch<Global>,
-    core: &Core<Toy, 2, Global>,
-    prepared: &PreparedBatch<Toy, 2, Global>,
+    prepared: &PreparedBatch<Toy, 2>,
 ) -> Result<bool, AllocError> {
     Ok(
-        has_trees(alloc, prepared)?
+        has_trees(alloc, prepared)
             && has_blocks(alloc, batch, prepared)?
             && has_changes(alloc, prepared)?
-            && is_read(alloc, prepared)?
-            && is_lent(alloc, core, prepared)?,
+            && is_read(alloc, prepared)?,
     )
 }
 
-/// Whether a core is that of the first batch, with what it holds.
-fn is_first<A: Allocator>(
-    alloc: Global,
-    shard: &Shard<Toy, A>,
-    core: &Core<Toy, 2, A>,
+/// What is seen of a core and its store.
+#[derive(Clone, Copy, PartialEq, Eq)]
+struct Seen {
     commit: Option<Cid>,
-) -> bool {
-    match pairs_of::<Toy>(alloc, &BEFORE) {
+    number: u64,
+    held: Option<u64>,
+    counts: (u64, u64),
+}
+
+/// What is seen of a core and its store.
+fn see<D: Digest, const B: u8, A: Allocator>(shard: &Shard<D, A>, core: &Core<D, B, A>) -> Seen {
+    Seen {
+        commit: core.commit(),
+        number: core.number(),
+        held: held(shard, core),
+        counts: counts(shard),
+    }
+}
+
+/// Whether all that is seen is as before, and the core has the records of the first batch and no others.
+fn is_first<D: Digest, const B: u8, A: Allocator>(
+    alloc: Global,
+    shard: &Shard<D, A>,
+    core: &Core<D, B, A>,
+    before: &Seen,
+) -> bool
+    requires least { 1 ≤ B }
+    requires most { B ≤ 8 }
+{
+    match pairs_of::<D>(alloc, &BEFORE) {
         Ok(pairs) => {
-            is_of::<Toy, 2, _, _>(alloc, core, &pairs, commit)
+            see(shard, core) == *before
                 && core.number() == 4
-                && held(shard, core).is_some()
+                && is_of(alloc, core, &pairs, core.commit())
         }
         Err(_) => false,
     }
@@ -290,13 +322,14 @@ fn a_batch_is_told_before_it_is_accepted(rt: HostRuntime) {
     let mut shard: Shard<Toy> = Shard::new(alloc, 100, TableKey::known());
     let mut core: Core<Toy, 2> = opened(&rt, alloc, &mut shard, 0);
     assert!(rt; apply_steps(alloc, &mut shard, &mut core, 0, &FIRST) == Accepted(4));
-    let (commit, holds) = (core.commit(), counts(&shard));
+    let before = see(&shard, &core);
 
     let prepared = core
         .prepare(alloc, &batch.stamp, &batch.writes)
         .expect(&rt, "a prepared batch");
-    assert!(rt; is_told(alloc, &batch, &core, &prepared).expect(&rt, "memory"));
-    assert!(rt; is_first(alloc, &shard, &core, commit) && counts(&shard) == holds);
+    assert!(rt; is_told(alloc, &batch, &prepared).unwrap_or(false));
+    assert!(rt; lends_tree(alloc, &core, &prepared) && lends_records(alloc, &core, &prepared));
+    assert!(rt; is_first(alloc, &shard, &core, &before));
 
     let (root, signed) = (prepared.root(), prepared.commit_block().cid());
     let applied = core
@@ -316,14 +349,19 @@ fn nothing_stays_of_one_that_is_let_go(rt: HostRuntime) {
     let mut shard: Shard<Toy, &Heap> = Shard::new(&heap, 100, TableKey::known());
     let mut core: Core<Toy, 2, &Heap> = opened(&rt, &heap, &mut shard, 0);
     assert!(rt; apply_steps(&heap, &mut shard, &mut core, 0, &FIRST) == Accepted(4));
-    let (commit, holds, live) = (core.commit(), counts(&shard), heap.live());
-    match core.prepare(&heap, &batch.stamp, &batch.writes) {
-        Ok(prepared) => drop(prepared),
-        Err(_) => assert!(rt; false),
-    }
-    assert!(rt; heap.live() == live && counts(&shard) == holds);
-    assert!(rt; is_first(rt.alloc(), &shard, &core, commit));
+    let (before, live) = (see(&shard, &core), heap.live());
+    let is_made = core.prepare(&heap, &batch.stamp, &batch.writes).is_ok();
+    assert!(rt; is_made && heap.live() == live);
+    assert!(rt; is_first(rt.alloc(), &shard, &core, &before));
     end(&mut shard, core);
+}
+
+/// Whether there is memory to tell its changes.
+fn tells_changes<'h>(heap: &'h Heap, prepared: &PreparedBatch<Toy, 2, &'h Heap>) -> bool {
+    match prepared.changes(heap) {
+        Ok(changes) => changes.len() == CHANGED.len(),
+        Err(_) => false,
+    }
 }
 
 /// Prepares the batch, tells its changes, lends the repository as it will be, and accepts it, where this request for memory is
@@ -340,8 +378,8 @@ fn ended_without<'h>(
         Ok(prepared) => prepared,
         Err((place, fault)) => return Refused(place, why_of(&fault)),
     };
-    if !has_changes(heap, &prepared).unwrap_or(false) {
-        return Ended::Unmade;
+    if !tells_changes(heap, &prepared) {
+        return Unmade;
     }
     match core.lender_with(heap, &prepared) {
         Ok(_) => {}
@@ -350,40 +388,44 @@ fn ended_without<'h>(
     end_of(core.accept(&mut LentShard::new(shard), prepared))
 }
 
-/// How many of the requests for memory were refused before the batch is accepted, where all is as before after each refusal.
-fn refusals<R: Abort>(rt: &R, alloc: Global) -> Option<u64> {
-    let heap = Refusing::new(alloc);
-    let batch = batch_at(&heap, 1, &THEN).expect(rt, "a batch");
-    let mut shard: Shard<Toy, &Heap> = Shard::new(&heap, 100, TableKey::known());
-    let mut core: Core<Toy, 2, &Heap> = opened(rt, &heap, &mut shard, 0);
-    let is_begun = apply_steps(&heap, &mut shard, &mut core, 0, &FIRST) == Accepted(4);
-    let (commit, holds) = (core.commit(), counts(&shard));
-    let mut count = None;
+/// Whether a batch ended for want of memory.
+fn is_want(ended: Ended) -> bool {
+    matches!(ended, Unmade | Refused(_, Why::NoMemory))
+}
+
+/// At which request for memory the batch is accepted first, where all is as before after each refusal; else 0.
+fn requests<'h>(
+    alloc: Global,
+    heap: &'h Heap,
+    shard: &mut Shard<Toy, &'h Heap>,
+    core: &mut Core<Toy, 2, &'h Heap>,
+    batch: &Batch<&'h Heap>,
+) -> u64 {
+    let before = see(shard, core);
     for request in 1..400u64 {
-        let ended = ended_without(&heap, &mut shard, &mut core, &batch, request);
+        let ended = ended_without(heap, shard, core, batch, request);
         heap.refuse(0);
         if ended == Accepted(9) {
-            count = Some(request);
-            break;
+            return request;
         }
-        let is_want = ended == Ended::Unmade || matches!(ended, Refused(_, Why::NoMemory));
-        if !is_want || counts(&shard) != holds || !is_first(alloc, &shard, &core, commit) {
-            break;
+        if !is_want(ended) || !is_first(alloc, shard, core, &before) {
+            return 0;
         }
     }
-    end(&mut shard, core);
-    if is_begun && counts(&shard) == (0, 0) {
-        count
-    } else {
-        None
-    }
+    0
 }
 
 /// Where memory is refused all is as before, at each of the requests.
 #[test]
 fn want_of_memory_changes_nothing(rt: HostRuntime) {
-    let count = refusals(&rt, rt.alloc());
-    assert!(rt; count.is_some_and(|count| count > 60), "{count:?}");
+    let heap = Refusing::new(rt.alloc());
+    let batch = batch_at(&heap, 1, &THEN).expect(&rt, "a batch");
+    let mut shard: Shard<Toy, &Heap> = Shard::new(&heap, 100, TableKey::known());
+    let mut core: Core<Toy, 2, &Heap> = opened(&rt, &heap, &mut shard, 0);
+    assert!(rt; apply_steps(&heap, &mut shard, &mut core, 0, &FIRST) == Accepted(4));
+    let count = requests(rt.alloc(), &heap, &mut shard, &mut core, &batch);
+    end(&mut shard, core);
+    assert!(rt; count > 60 && counts(&shard) == (0, 0), "{count}");
 }
 
 /// A store that is full is told where the batch is accepted, at its last write, and not before.
@@ -394,30 +436,63 @@ fn a_full_store_is_told_at_last(rt: HostRuntime) {
     let mut shard: Shard<Toy> = Shard::new(alloc, 10, TableKey::known());
     let mut core: Core<Toy, 2> = opened(&rt, alloc, &mut shard, 0);
     assert!(rt; apply_steps(alloc, &mut shard, &mut core, 0, &FIRST) == Accepted(4));
-    let (commit, holds) = (core.commit(), counts(&shard));
+    let before = see(&shard, &core);
     let prepared = core
         .prepare(alloc, &batch.stamp, &batch.writes)
         .expect(&rt, "a prepared batch");
-    assert!(rt; is_told(alloc, &batch, &core, &prepared).expect(&rt, "memory"));
+    assert!(rt; is_told(alloc, &batch, &prepared).unwrap_or(false));
     let ended = end_of(core.accept(&mut LentShard::new(&mut shard), prepared));
-    assert!(rt; ended == Refused(4, Why::StoreFull) && counts(&shard) == holds);
-    assert!(rt; is_first(alloc, &shard, &core, commit));
+    assert!(rt; ended == Refused(4, Why::StoreFull));
+    assert!(rt; is_first(alloc, &shard, &core, &before));
     end(&mut shard, core);
 }
 
-/// What a test refuses is refused at its place before the store is asked.
+/// Batches on a repository without writes, with the place at which each is refused, and why.
+static REFUSED: [(&[Step<'static>], usize, Why); 3] = [
+    (&[], 0, Why::EmptyBatch),
+    (
+        &[Put(b"a/b0", ONE), Create(b"a/b0", TWO)],
+        1,
+        Why::KeyExists,
+    ),
+    (
+        &[Put(b"a/b0", ONE), Delete(b"a/b0"), Update(b"a/b0", TWO)],
+        2,
+        Why::NoSuchKey,
+    ),
+];
+
+/// Whether a batch is refused at this place, and why.
+fn is_refused(
+    made: Result<PreparedBatch<Toy, 2>, (usize, RepoFault<Toy>)>,
+    place: usize,
+    why: Why,
+) -> bool {
+    match made {
+        Ok(_) => false,
+        Err((at, fault)) => at == place && why_of(&fault) == why,
+    }
+}
+
+/// Whether each batch of the table is refused so.
+fn are_refused<R: Abort>(rt: &R, alloc: Global, core: &Core<Toy, 2>) -> bool {
+    for (steps, place, why) in &REFUSED {
+        let batch = batch_at(alloc, 0, steps).expect(rt, "a batch");
+        let made = core.prepare(alloc, &batch.stamp, &batch.writes);
+        if !is_refused(made, *place, *why) {
+            return false;
+        }
+    }
+    true
+}
+
+/// What a test refuses is refused at its place before the store is asked, which has no room.
 #[test]
 fn a_test_refuses_what_is_prepared(rt: HostRuntime) {
     let alloc = rt.alloc();
-    let steps = [Put(b"a/b0", ONE), Delete(b"a/b0"), Update(b"a/b0", TWO)];
-    let batch = batch_at(alloc, 0, &steps).expect(&rt, "a batch");
     let mut shard: Shard<Toy> = Shard::new(alloc, 1, TableKey::known());
     let core: Core<Toy, 2> = opened(&rt, alloc, &mut shard, 0);
-    let is_refused = match core.prepare(alloc, &batch.stamp, &batch.writes) {
-        Ok(_) => false,
-        Err((place, fault)) => (place, why_of(&fault)) == (2, Why::NoSuchKey),
-    };
-    assert!(rt; is_refused && core.number() == 0);
+    assert!(rt; are_refused(&rt, alloc, &core) && core.number() == 0);
     end(&mut shard, core);
 }
 
