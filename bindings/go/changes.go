@@ -11,7 +11,7 @@ type KeyChange struct {
 	Before, After Cid
 }
 
-// A ChangeProof is what changes make of a repository, and what shows it: the root after them, what each key had and has, in the order of the
+// A ChangeProof is what changes make of a repository, or of a tree, and what shows it: the root after them, what each key had and has, in the order of the
 // keys, and the nodes of the tree before that doing them reads. Who knows the root before gives all of it to VerifyChange.
 type ChangeProof struct {
 	After   Cid
@@ -98,6 +98,16 @@ func toldOf(changes []KeyChange) told {
 type change struct {
 	key   string
 	value Cid
+}
+
+// What changes make of a tree, and what shows it, as an answer has both.
+func proofOf(answer *reader, changes []change) *ChangeProof {
+	proof := &ChangeProof{After: answer.cid()}
+	for _, change := range changes {
+		proof.Changes = append(proof.Changes, KeyChange{change.key, answer.cid(), change.value})
+	}
+	proof.Nodes = answer.parts()
+	return proof
 }
 
 // Changes in the order of their keys.

@@ -10,9 +10,12 @@
 //
 // A repository in memory: Open and Repository, its writes, which Put, Create, Update and Delete make, and Applied, what a batch leaves. What a
 // batch is tested by: CheckWrite, CheckRecord, CheckStamp, IsDid, IsTid, IsRepositoryKey. Its file: Car, WriteCar and CarReader, which is an
-// io.Reader.
+// io.Reader. Files as servers export them: CheckCar, Export, OpenCar.
 //
-// A tree whose nodes a program keeps elsewhere: TreeApply, TreeGet, TreePath, Edit, Links, EmptyNode.
+// A tree whose nodes a program keeps elsewhere: TreeApply, TreeGet, TreePath, TreeList, TreeProveChange, TreeDifference,
+// Edit, Links, NodeEntries, EmptyNode.
+//
+// Records as JSON: RecordJSON, JSONRecord; the CIDs of blobs: LinkText, LinkFromText.
 //
 // Proofs: Verify for single keys; VerifyChange, VerifyInversion and ChangeProof for what a batch changed.
 //

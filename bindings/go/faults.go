@@ -9,10 +9,12 @@ type Fault struct {
 	// Number and Name are those of the C header.
 	Number int
 	Name   string
-	// Place is that of the write in its batch, or of the change, from 0 on; 0 where there is none.
+	// Place is that of the write in its batch, of the change, or of the record, from 0 on; 0 where there is none.
 	Place int
 	// Cid is that of the node which is missing or is none; the zero Cid where no node is meant.
 	Cid Cid
+	// Path is the way to what is wrong in a JSON text, from the outside: .key and [place]; "" where the whole text is meant.
+	Path string
 
 	sentence string
 }
@@ -22,6 +24,8 @@ func (f *Fault) Error() string {
 	switch {
 	case f.Cid != (Cid{}):
 		return fmt.Sprintf("%s: %s", f.sentence, f.Cid)
+	case f.Path != "":
+		return fmt.Sprintf("%s: %s", f.Path, f.sentence)
 	case f.Place > 0:
 		return fmt.Sprintf("at place %d: %s", f.Place, f.sentence)
 	}

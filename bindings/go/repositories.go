@@ -22,11 +22,15 @@ type Applied struct {
 
 // Open opens a repository that takes so many writes, 1 to 1,048,576; another limit is ErrBad.
 func Open(limit int) (*Repository, error) {
+	return opened(limit, func(r *Repository) C.uint8_t { return C.tizulgech_open(C.size_t(limit), &r.raw) })
+}
+
+func opened(limit int, call func(r *Repository) C.uint8_t) (*Repository, error) {
 	if limit < 0 {
 		return nil, ofAll.fault(uint8(ErrBad.Number))
 	}
 	r := &Repository{}
-	if number := C.tizulgech_open(C.size_t(limit), &r.raw); number != C.TIZULGECH_DONE {
+	if number := call(r); number != C.TIZULGECH_DONE {
 		return nil, ofAll.fault(uint8(number))
 	}
 	runtime.SetFinalizer(r, (*Repository).Close)
@@ -258,13 +262,7 @@ func (r *Repository) ProveChange(changes map[string]Cid) (*ChangeProof, error) {
 	if err != nil {
 		return nil, err
 	}
-	answer := &reader{found}
-	proof := &ChangeProof{After: answer.cid()}
-	for _, change := range own {
-		proof.Changes = append(proof.Changes, KeyChange{change.key, answer.cid(), change.value})
-	}
-	proof.Nodes = answer.parts()
-	return proof, nil
+	return proofOf(&reader{found}, own), nil
 }
 
 // ProveInversion is the nodes that show that changes undone lead back from the repository as it is; the keys ascend. That each key has what is

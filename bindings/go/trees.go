@@ -59,6 +59,71 @@ func TreeGet(nodes Nodes, root Cid, key string) (Cid, error) {
 	return value, err
 }
 
+// TreeList is the first keys from one on, so many at most, each with its record's CID. No node is hashed; the faults are those of TreePath. The
+// next ones begin at the last key with a zero byte behind it.
+func TreeList(nodes Nodes, root Cid, start string, most int) ([]Pair, error) {
+	var found []Pair
+	left := []rest{{cid: root, layers: mostNodes}}
+	for len(left) > 0 && len(found) < most {
+		next := left[len(left)-1]
+		left = left[:len(left)-1]
+		if next.isPair {
+			found = append(found, Pair{next.key, next.cid})
+			continue
+		}
+		below, err := next.from(nodes, start)
+		if err != nil {
+			return nil, err
+		}
+		left = append(left, below...)
+	}
+	return found, nil
+}
+
+// What is left of a listing: a pair, or a node with how many layers it may have.
+type rest struct {
+	isPair bool
+	key    string
+	cid    Cid
+	layers int
+}
+
+// What of a node isn't before a key, the next last.
+func (r rest) from(nodes Nodes, start string) ([]rest, error) {
+	if r.layers == 0 {
+		return nil, ofTrees.fault(uint8(ErrTooManyNodes.Number))
+	}
+	node, err := nodeOf(nodes, r.cid)
+	if err != nil {
+		return nil, err
+	}
+	entries, err := NodeEntries(node)
+	if fault, ok := err.(*Fault); ok && fault.Number == ErrBadNode.Number {
+		fault.Cid = r.cid
+	}
+	if err != nil {
+		return nil, err
+	}
+	var found []rest
+	below := func(link Cid) {
+		if !link.IsNone() {
+			found = append(found, rest{cid: link, layers: r.layers - 1})
+		}
+	}
+	place := len(entries.Pairs)
+	for ; place > 0 && entries.Pairs[place-1].Key >= start; place-- {
+		pair := entries.Pairs[place-1]
+		below(pair.Link)
+		found = append(found, rest{isPair: true, key: pair.Key, cid: pair.Value})
+	}
+	if place > 0 {
+		below(entries.Pairs[place-1].Link)
+	} else {
+		below(entries.Left)
+	}
+	return found, nil
+}
+
 // TreeApply changes keys of a tree at once: each gets a value, or goes where that is the zero Cid.
 //
 // The nodes that this needs are asked for layer by layer, each once. Each is hashed once, and one that isn't of the CID that was asked for is a
@@ -75,14 +140,59 @@ func TreeApplyKnown(nodes Nodes, root Cid, changes map[string]Cid) (*Edit, error
 }
 
 func treeApply(nodes Nodes, root Cid, changes map[string]Cid, known bool) (*Edit, error) {
-	own, given := ordered(changes), &given{ask: nodes, known: known, places: map[Cid]int{}}
-	if err := given.askBelow(root, own); err != nil {
+	own := ordered(changes)
+	answer, err := overAsked(nodes, root, own, known, apply)
+	if err != nil {
+		return nil, err
+	}
+	return editOf(answer, own), nil
+}
+
+// TreeProveChange is what changes make of a tree, and the nodes that show it to whoever knows its root, as Repository.ProveChange has it of a
+// repository in memory. Nothing is changed by it. The nodes are asked for, and the faults come, as of TreeApply.
+func TreeProveChange(nodes Nodes, root Cid, changes map[string]Cid) (*ChangeProof, error) {
+	return treeProveChange(nodes, root, changes, false)
+}
+
+// TreeProveChangeKnown is TreeProveChange over nodes of which none is hashed, as TreeApplyKnown has them.
+func TreeProveChangeKnown(nodes Nodes, root Cid, changes map[string]Cid) (*ChangeProof, error) {
+	return treeProveChange(nodes, root, changes, true)
+}
+
+func treeProveChange(nodes Nodes, root Cid, changes map[string]Cid, known bool) (*ChangeProof, error) {
+	own := ordered(changes)
+	answer, err := overAsked(nodes, root, own, known, proveChange)
+	if err != nil {
+		return nil, err
+	}
+	return proofOf(answer, own), nil
+}
+
+// A call over the nodes of a host.
+type hosted func(nodes list, cids, root span, wanted wanted, missing, out span, size *C.size_t) C.uint8_t
+
+func apply(nodes list, cids, root span, wanted wanted, missing, out span, size *C.size_t) C.uint8_t {
+	return C.tizulgech_tree_apply(nodes.at, nodes.length, nodes.ends, nodes.count, cids.at, cids.length, root.at, root.length,
+		wanted.at, wanted.length, wanted.ends, wanted.count, wanted.values.at, wanted.values.length,
+		missing.at, missing.length, out.at, out.length, size)
+}
+
+func proveChange(nodes list, cids, root span, wanted wanted, missing, out span, size *C.size_t) C.uint8_t {
+	return C.tizulgech_tree_prove_change(nodes.at, nodes.length, nodes.ends, nodes.count, cids.at, cids.length, root.at, root.length,
+		wanted.at, wanted.length, wanted.ends, wanted.count, wanted.values.at, wanted.values.length,
+		missing.at, missing.length, out.at, out.length, size)
+}
+
+// What a call answers to changes over the nodes that these need, which are asked for layer by layer.
+func overAsked(nodes Nodes, root Cid, changes []change, known bool, call hosted) (*reader, error) {
+	given := &given{ask: nodes, known: known, places: map[Cid]int{}}
+	if err := given.askBelow(root, changes); err != nil {
 		return nil, err
 	}
 	for {
-		edit, missing, err := given.edited(root, own)
+		answer, missing, err := given.answered(root, changes, call)
 		if err == nil || missing.IsNone() {
-			return edit, err
+			return answer, err
 		}
 		// Nodes that are no tree's may need another one.
 		if _, there := given.places[missing]; there {
@@ -193,22 +303,20 @@ func (b branch) below(node []byte) ([]branch, error) {
 	return links, nil
 }
 
-// What the library answers to changes over the nodes that are here, or the CID of one that is missing.
-func (g *given) edited(root Cid, changes []change) (edit *Edit, missing Cid, err error) {
+// What a call answers to changes over the nodes that are here, or the CID of one that is missing.
+func (g *given) answered(root Cid, changes []change, call hosted) (answer *reader, missing Cid, err error) {
 	nodes, cids, of, wanted := listOf(g.nodes), spanOf(g.cids), spanOf(root[:]), wantedOf(changes)
 	var last C.uint8_t
 	var told Cid
 	// Room for the answer of nearly any edit: where it is too small all is made once more.
 	room := int(nodes.length) + 128*len(g.nodes) + int(wanted.length) + 256*len(changes) + 1024
 	found, err := filled(room, ofTrees, func(out span, size *C.size_t) C.uint8_t {
-		last = C.tizulgech_tree_apply(nodes.at, nodes.length, nodes.ends, nodes.count, cids.at, cids.length, of.at, of.length,
-			wanted.at, wanted.length, wanted.ends, wanted.count, wanted.values.at, wanted.values.length,
-			told.room(), C.size_t(len(told)), out.at, out.length, size)
+		last = call(nodes, cids, of, wanted, spanOf(told[:]), out, size)
 		return last
 	})
 	switch {
 	case err == nil:
-		return editOf(&reader{found}, changes), Cid{}, nil
+		return &reader{found}, Cid{}, nil
 	case last == C.TIZULGECH_MISSING:
 		return nil, told, err
 	case last == C.TIZULGECH_BAD_NODE:

@@ -250,3 +250,34 @@ func Links(node []byte) ([]Link, error) {
 	}
 	return links, nil
 }
+
+// Entries are the pairs and the links of a node, from the front: the link before its first key, and its pairs. A link is the zero Cid where there
+// is none.
+type Entries struct {
+	Left  Cid
+	Pairs []Entry
+}
+
+// An Entry is a pair of a node: a key, its record's CID, and the link behind it.
+type Entry struct {
+	Key         string
+	Value, Link Cid
+}
+
+// NodeEntries are the pairs and the links of a node; ErrBadNode for a block that is no node.
+func NodeEntries(node []byte) (Entries, error) {
+	it := spanOf(node)
+	found, err := filled(someRoom+2*len(node), ofTrees, func(out span, size *C.size_t) C.uint8_t {
+		return C.tizulgech_node_entries(it.at, it.length, out.at, out.length, size)
+	})
+	if err != nil {
+		return Entries{}, err
+	}
+	answer := reader{found}
+	entries := Entries{Left: answer.cid()}
+	for answer.more() {
+		key, value := string(answer.part()), answer.cid()
+		entries.Pairs = append(entries.Pairs, Entry{key, value, answer.cid()})
+	}
+	return entries, nil
+}

@@ -120,13 +120,18 @@ pub(crate) fn followed<G: Digest, const BITS: u8, M: Allocator + Copy>(
     let (root, number) = (mirror.root(), mirror.number());
     let mut store = LentShard::new(shard);
     match check_and_apply(alloc, &mut store, mirror, message) {
-        Ok(followed) => match followed.applied {
-            Some(applied) if applied.previous == root && applied.root == mirror.root() => {
-                Some(Ok(applied.root))
+        Ok(followed) => {
+            let applied = followed.applied;
+            let as_told = match applied {
+                Some(applied) => applied.previous == root && applied.root == mirror.root(),
+                None => mirror.root() == root && mirror.number() == number,
+            };
+            if as_told {
+                Some(Ok(mirror.root()))
+            } else {
+                None
             }
-            None if mirror.root() == root && mirror.number() == number => Some(Ok(root)),
-            _ => None,
-        },
+        }
         Err(fault) => {
             if mirror.root() == root && mirror.number() == number {
                 Some(Err(fault))
