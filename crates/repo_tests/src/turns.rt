@@ -119,7 +119,7 @@ fn end_at_last<'h, R: Wait, D: Digest, const B: u8>(
 }
 
 /// The pairs of these keys and records.
-fn pairs_of<D: Digest>(
+pub(crate) fn pairs_of<D: Digest>(
     alloc: Global,
     records: &[(&[u8], &[u8])],
 ) -> Result<Vec<(Vec<u8>, Cid)>, AllocError> {
